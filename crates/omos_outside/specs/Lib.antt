@@ -1,0 +1,7 @@
+pub mod Faults
+pub mod Stream
+pub mod Got
+pub mod Took
+pub mod Plain
+pub mod Fixed
+pub mod Scripted
