@@ -1,0 +1,5 @@
+pub mod Shdr
+pub mod Sym
+pub mod Mark
+pub mod StartedCode
+pub mod First

@@ -1,0 +1,12 @@
+//! Reads object files: what their header says, and those of the first form.
+//!
+//! The file is lent, never copied, and no call takes memory.
+#![tactic(auto)]
+
+mod first;
+mod header;
+mod section;
+mod symbol;
+mod tests_of;
+
+pub use first::{Early, First, first_form};
