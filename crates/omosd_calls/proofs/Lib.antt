@@ -1,0 +1,5 @@
+pub mod Determined
+pub mod Endings
+pub mod Known
+pub mod OneWord
+pub mod Piece

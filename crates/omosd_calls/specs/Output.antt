@@ -1,0 +1,20 @@
+-- What a run writes.
+use Rattle.std.specs.Prelude.{◌≡◌, ℕ, ◌<◌, List, length, take, Option, None, Some}
+use Rattle.std.specs.Io.KnownBytes.{Appends}
+
+-- the sink took some of the bytes from their front, and not all
+abbrev pub WrotePart : Option (List ℕ) → Option (List ℕ) → List ℕ → Type 0
+WrotePart before now bytes = (count : ℕ) × (count < length bytes) × Appends before now (take count bytes)
+
+-- an output for which this holds was written
+abbrev pub HasWritten : Option (List ℕ) → Option (List ℕ) → (List ℕ → Type 0) → Type 0
+HasWritten before now P = (output : List ℕ) × P output × Appends before now output
+
+-- of an output for which this holds a part was written, and not all
+abbrev pub HasWrittenPart : Option (List ℕ) → Option (List ℕ) → (List ℕ → Type 0) → Type 0
+HasWrittenPart before now P = (output : List ℕ) × P output × WrotePart before now output
+
+-- the sink tells what it holds, and this was all that was written
+abbrev pub ToldOutput : Option (List ℕ) → Option (List ℕ) → List ℕ → Type 0
+ToldOutput None now output = ⊥
+ToldOutput (Some before) now output = Appends (Some before) now output

@@ -1,0 +1,13 @@
+//! The top calls of the program `omosd`: each takes the words of the command line and what the run
+//! reads and writes, and answers the status. `main` makes the real ones and calls it.
+#![tactic(auto)]
+
+mod ending;
+mod image;
+mod once;
+mod reading;
+mod refusal;
+mod words;
+mod writing;
+
+pub use once::omosd_once;

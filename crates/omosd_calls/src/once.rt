@@ -1,0 +1,96 @@
+//! One object in, its image out.
+
+ghost use Rattle.std.specs.Prelude.{◌≡◌, ◌≤◌, ◌↔◌, ◌∷◌, [], ℕ, List, length, Contains};
+ghost use Rattle.omos_outside.specs.Faults.{Rose};
+ghost use Rattle.omos_model.specs.FirstImage.{FirstImage};
+ghost use Rattle.omosd_calls.specs.Input.{HasRead, ToldInput};
+ghost use Rattle.omosd_calls.specs.Output.{HasWritten, HasWrittenPart, ToldOutput};
+ghost use Rattle.omosd_calls.specs.Once.{Answered, IsOutput};
+ghost use Rattle.omosd_calls.specs.Refusal.{IsRefusal};
+ghost use Rattle.omosd_calls.specs.Words.{IsOnce};
+
+use crate::ending::Ending;
+use crate::image::image_of;
+use crate::reading::{Unread, read_file};
+use crate::refusal::line_of;
+use crate::words::is_once;
+use crate::writing::write_all;
+use elf_object::first_form;
+use omos_outside::{Sink, Source};
+use std::alloc::Global;
+
+/// Writes the image of a file, or why it is refused.
+fn answer_file<K: Sink>(alloc: Global, file: &[u8], sink: &mut K) -> Ending
+    ensures answer { Answered result file.now (K.held sink.old) (K.held sink.new) }
+    ensures later { K.faults sink.old ≤ K.faults sink.new }
+    ensures failed { result ≡ Ending.SinkFailed → Rose (K.faults sink.old) (K.faults sink.new) }
+    ensures no_memory { result ≡ Ending.NoMemory → sink.new ≡ sink.old }
+{
+    match first_form(file) {
+        Ok(first) => match image_of(alloc, first.code(), first.start()) {
+            Ok(image) => match write_all(sink, image.as_slice()) {
+                Ok(()) => Ending::Done,
+                Err(_) => Ending::SinkFailed,
+            },
+            Err(_) => Ending::NoMemory,
+        },
+        Err(early) => match write_all(sink, line_of(early)) {
+            Ok(()) => Ending::Refused,
+            Err(_) => Ending::SinkFailed,
+        },
+    }
+}
+
+/// Reads an object from the source, to its end or to 1,048,577 bytes, and writes to the sink its
+/// static executable at 0x00400000, or the line that says why it is refused.
+///
+/// The result is the status: 0 the image was written; 1 the line was written; 2 the words aren't
+/// the one word `once`; 3 the source failed; 4 the sink failed; 8 there was no memory, which is
+/// the one answer whose cause no clause can give.
+pub fn omosd_once<S: Source, K: Sink>(
+    alloc: Global,
+    words: &[String],
+    source: &mut S,
+    sink: &mut K,
+) -> u8
+    ensures statuses { Contains (0 ∷ 1 ∷ 2 ∷ 3 ∷ 4 ∷ 8 ∷ []) result }
+
+    // The words alone decide, and then nothing is read or written.
+    ensures usage { (result ≡ 2) ↔ (IsOnce words.now → ⊥) }
+    ensures idle { result ≡ 2 → (source.new ≡ source.old) × (sink.new ≡ sink.old) }
+
+    // The image of the file that was read, and nothing else, was written: under 0 alone.
+    ensures done { result ≡ 0 → HasRead (S.told source.old) (S.told source.new)
+        (λ file. HasWritten (K.held sink.old) (K.held sink.new) (FirstImage file)) }
+    ensures done_where { (file output : List ℕ) → IsOnce words.now
+        → ToldInput (S.told source.old) (S.told source.new) file → FirstImage file output
+        → ToldOutput (K.held sink.old) (K.held sink.new) output → result ≡ 0 }
+
+    // The line of its refusal, and nothing else, was written: under 1 alone.
+    ensures refused { result ≡ 1 → HasRead (S.told source.old) (S.told source.new)
+        (λ file. HasWritten (K.held sink.old) (K.held sink.new) (IsRefusal file)) }
+    ensures refused_where { (file output : List ℕ) → IsOnce words.now
+        → ToldInput (S.told source.old) (S.told source.new) file → IsRefusal file output
+        → ToldOutput (K.held sink.old) (K.held sink.new) output → result ≡ 1 }
+
+    // The source failed, and nothing was written.
+    ensures source_failed { result ≡ 3 → Rose (S.faults source.old) (S.faults source.new) }
+    ensures unwritten { result ≡ 3 → sink.new ≡ sink.old }
+
+    // The sink failed, with the front of the image or of the line written, and not all of it.
+    ensures sink_failed { result ≡ 4 → Rose (K.faults sink.old) (K.faults sink.new) }
+    ensures part { result ≡ 4 → HasRead (S.told source.old) (S.told source.new)
+        (λ file. HasWrittenPart (K.held sink.old) (K.held sink.new) (IsOutput file)) }
+
+    // There was no memory, and nothing was written.
+    ensures no_memory { result ≡ 8 → sink.new ≡ sink.old }
+{
+    if !is_once(words) {
+        return Ending::Usage.status();
+    }
+    match read_file(alloc, source) {
+        Ok(file) => answer_file(alloc, file.as_slice(), sink).status(),
+        Err(Unread::SourceFailed) => Ending::SourceFailed.status(),
+        Err(Unread::NoMemory) => Ending::NoMemory.status(),
+    }
+}
