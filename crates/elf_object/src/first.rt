@@ -11,9 +11,7 @@ ghost use Rattle.elf_object.specs.First.{Describes, HasCause};
 use crate::header::{check_header, section_count};
 use crate::section::header_of;
 use crate::symbol::symbol_of;
-use crate::tests_of::{
-    defines_start, is_allocated, is_code, is_pair, is_plain, is_symbol_table,
-};
+use crate::tests_of::{defines_start, is_allocated, is_code, is_pair, is_plain, is_symbol_table};
 use omos_model::ObjectFault;
 use std::marker::Model;
 use thiserror::Error;

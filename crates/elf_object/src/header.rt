@@ -10,10 +10,13 @@ use omos_model::ObjectFault;
 const IDENTIFICATION: [u8; 7] = [0x7f, b'E', b'L', b'F', 2, 1, 1];
 
 const ELFOSABI_NONE: u8 = 0;
+
 const ELFOSABI_LINUX: u8 = 3;
 
 const ET_REL: u16 = 1;
+
 const EM_X86_64: u16 = 62;
+
 const EV_CURRENT: u32 = 1;
 
 fn is_elf(file: &[u8]) -> bool

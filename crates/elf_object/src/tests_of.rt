@@ -11,17 +11,27 @@ use crate::section::header_of;
 use crate::symbol::symbol_of;
 
 const SHT_PROGBITS: u32 = 1;
+
 const SHT_SYMTAB: u32 = 2;
+
 const SHT_STRTAB: u32 = 3;
+
 const SHT_RELA: u32 = 4;
+
 const SHT_REL: u32 = 9;
+
 const SHT_GROUP: u32 = 17;
+
 const SHT_SYMTAB_SHNDX: u32 = 18;
 
 const SHF_WRITE: u64 = 1;
+
 const SHF_ALLOC: u64 = 2;
+
 const SHF_EXECINSTR: u64 = 4;
+
 const SHF_TLS: u64 = 0x400;
+
 const SHF_COMPRESSED: u64 = 0x800;
 
 /// The name of the start, with its end.

@@ -1,8 +1,8 @@
 -- A file has one output, and a source and a sink that tell their bytes leave one file and one output.
-use Rattle.std.proofs.Common.{◌≡◌, ◌≢◌, ◌⊎◌, inl, inr, ℕ, ◌<◌, List, [], ◌∷◌, ◌++◌, length, take, Option, None, Some, refl, sym, ap, subst, ◌∙◌, arith}
+use Rattle.std.proofs.Common.{◌≡◌, ◌≢◌, inl, inr, ℕ, ◌<◌, List, [], length, take, Option, None, Some, refl, sym, ap, subst, ◌∙◌, arith}
 use Rattle.std.specs.Io.KnownBytes.{Appends}
 use Rattle.std.proofs.lemmas.List.{append_cancel_left, append_cancel_right, append-nil, length-take}
-use Rattle.omos_outside.specs.Stream.{Stream, Gives}
+use Rattle.omos_outside.specs.Stream.{Stream}
 use Rattle.omos_model.specs.declared.fault.ObjectFault.{ObjectFault}
 use Rattle.omos_model.specs.declared.fault.ObjectFault.TheVariants as fault
 use Rattle.omos_model.specs.ElfHeader.{HasHeaderFault}

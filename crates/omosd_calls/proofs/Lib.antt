@@ -3,3 +3,4 @@ pub mod Endings
 pub mod Known
 pub mod OneWord
 pub mod Piece
+pub mod Parts

@@ -15,10 +15,10 @@ pub more_by_piece : (before now : Option Stream) (file bytes grown : List ℕ) (
 more_by_piece before now file bytes grown room count kept sized is some fits given =
     let piece : List ℕ = take count (drop (length file) bytes) in
     let whole : grown ≡ file ++ piece =
-        is ∙ take-add (length file) count bytes ∙ ap (λ (front : List ℕ). front ++ piece) kept in
+    is ∙ take-add (length file) count bytes ∙ ap (λ (front : List ℕ). front ++ piece) kept in
     let added : drop (length file) grown ≡ piece = ap (drop (length file)) whole ∙ drop-append_seam file piece in
     let size : length grown ≡ length file + count =
-        ap length is ∙ length-take-le (length file + count) bytes (omega arith) in
+    ap length is ∙ length-take-le (length file + count) bytes (omega arith) in
     record {
       added = rw added whole;
       given = rw added given;

@@ -1,5 +1,5 @@
 -- What a run writes.
-use Rattle.std.specs.Prelude.{◌≡◌, ℕ, ◌<◌, List, length, take, Option, None, Some}
+use Rattle.std.specs.Prelude.{ℕ, ◌<◌, List, length, take, Option, None, Some}
 use Rattle.std.specs.Io.KnownBytes.{Appends}
 
 -- the sink took some of the bytes from their front, and not all

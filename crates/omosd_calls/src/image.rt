@@ -1,8 +1,8 @@
 //! The image of an object of the first form: a page with the headers, and the code in whole pages.
 
-ghost use Rattle.std.specs.Prelude.{◌≡◌, ◌+◌, ◌++◌, ◌≤◌, length, IfOk, OnOk};
+ghost use Rattle.std.specs.Prelude.{◌≡◌, ◌+◌, ◌-◌, ◌*◌, ◌++◌, ◌≤◌, length, IfOk, OnOk};
 ghost use Rattle.omos_model.specs.ElfHeader.{identification};
-ghost use Rattle.omos_model.specs.FirstImage.{base, code_segment, file_header, image_of_code, padded, stack_segment};
+ghost use Rattle.omos_model.specs.FirstImage.{base, code_segment, file_header, image_of_code, padded, page, pages_of, stack_segment};
 
 use omos_base::{Bytes, NoMemory};
 use std::alloc::Global;
@@ -77,18 +77,28 @@ fn pad(bytes: &mut Bytes, size: usize) -> Result<(), NoMemory>
     bytes.push_zeros(size.saturating_sub(bytes.len()))
 }
 
-/// The image of code that starts to run at this offset.
-pub(crate) fn image_of(alloc: Global, code: &[u8], start: u32) -> Result<Bytes, NoMemory>
+/// What stands round code that starts to run at this offset in its image: the page with the
+/// headers before it, and the zeros behind it.
+pub(crate) fn frame_of(alloc: Global, code: &[u8], start: u32) -> Result<(Bytes, Bytes), NoMemory>
     requires few { length code.now ≤ 1048576 }
-    ensures { IfOk result (λ image. image ≡ image_of_code code.now start) }
+    ensures { IfOk result (λ frame. image_of_code code.now start ≡ (frame.0 ++ code.now) ++ frame.1) }
 {
-    let size = PAGE + PAGE * ((code.len() + (PAGE - 1)) / PAGE);
-    let mut image = Bytes::with_capacity(alloc, size)?;
-    push_file_header(&mut image, BASE + u64::from(start))?;
-    push_code_segment(&mut image, code.len() as u64)?;
-    push_stack_segment(&mut image)?;
-    pad(&mut image, PAGE)?;
-    image.push_slice(code)?;
-    pad(&mut image, size)?;
-    Ok(image)
+    let mut head = Bytes::with_capacity(alloc, PAGE)?;
+    push_file_header(&mut head, BASE + u64::from(start))?;
+    push_code_segment(&mut head, code.len() as u64)?;
+    push_stack_segment(&mut head)?;
+    pad(&mut head, PAGE)?;
+    let mut tail = Bytes::new(alloc);
+    tail.push_zeros(padding(head.len(), code.len()))?;
+    Ok((head, tail))
+}
+
+/// How many zeros fill up a head and so much code to whole pages.
+fn padding(head: usize, code: usize) -> usize
+    requires few { code ≤ 1048576 }
+    ensures { result ≡ page + page * pages_of code - (head + code) }
+{
+    (PAGE + PAGE * ((code + (PAGE - 1)) / PAGE))
+        .saturating_sub(head)
+        .saturating_sub(code)
 }

@@ -5,19 +5,37 @@ ghost use Rattle.omos_outside.specs.Faults.{Rose};
 ghost use Rattle.omos_model.specs.FirstImage.{FirstImage};
 ghost use Rattle.omosd_calls.specs.Input.{HasRead, ToldInput};
 ghost use Rattle.omosd_calls.specs.Output.{HasWritten, HasWrittenPart, ToldOutput};
-ghost use Rattle.omosd_calls.specs.Once.{Answered, IsOutput};
+ghost use Rattle.omosd_calls.specs.Once.{Answered, IsOutput, WroteImage};
 ghost use Rattle.omosd_calls.specs.Refusal.{IsRefusal};
 ghost use Rattle.omosd_calls.specs.Words.{IsOnce};
 
 use crate::ending::Ending;
-use crate::image::image_of;
+use crate::image::frame_of;
 use crate::reading::{Unread, read_file};
 use crate::refusal::line_of;
 use crate::words::is_once;
-use crate::writing::write_all;
-use elf_object::first_form;
+use crate::writing::{write_all, write_parts};
+use elf_object::{First, first_form};
 use omos_outside::{Sink, Source};
 use std::alloc::Global;
+
+/// Writes an image, its code from where it stands in the file.
+fn write_image<K: Sink>(alloc: Global, first: &First, sink: &mut K) -> Ending
+    requires few { length first.now.code ≤ 1048576 }
+    ensures image { WroteImage result first.now (K.held sink.old) (K.held sink.new) }
+    ensures later { K.faults sink.old ≤ K.faults sink.new }
+    ensures failed { result ≡ Ending.SinkFailed → Rose (K.faults sink.old) (K.faults sink.new) }
+    ensures no_memory { result ≡ Ending.NoMemory → sink.new ≡ sink.old }
+{
+    let code = first.code();
+    let Ok((head, tail)) = frame_of(alloc, code, first.start()) else {
+        return Ending::NoMemory;
+    };
+    match write_parts(sink, head.as_slice(), code, tail.as_slice()) {
+        Ok(()) => Ending::Done,
+        Err(_) => Ending::SinkFailed,
+    }
+}
 
 /// Writes the image of a file, or why it is refused.
 fn answer_file<K: Sink>(alloc: Global, file: &[u8], sink: &mut K) -> Ending
@@ -27,13 +45,7 @@ fn answer_file<K: Sink>(alloc: Global, file: &[u8], sink: &mut K) -> Ending
     ensures no_memory { result ≡ Ending.NoMemory → sink.new ≡ sink.old }
 {
     match first_form(file) {
-        Ok(first) => match image_of(alloc, first.code(), first.start()) {
-            Ok(image) => match write_all(sink, image.as_slice()) {
-                Ok(()) => Ending::Done,
-                Err(_) => Ending::SinkFailed,
-            },
-            Err(_) => Ending::NoMemory,
-        },
+        Ok(first) => write_image(alloc, &first, sink),
         Err(early) => match write_all(sink, line_of(early)) {
             Ok(()) => Ending::Refused,
             Err(_) => Ending::SinkFailed,

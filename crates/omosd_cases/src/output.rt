@@ -18,11 +18,7 @@ pub(crate) fn sink_of(alloc: Global, writes: &str) -> Result<MemorySink> {
 
 /// The output is the case's: `nothing`, `line TEXT`, `file NAME`, or `first COUNT NAME`, the first
 /// bytes of a file.
-pub(crate) fn is_output<R: Files + AllocGlobal>(
-    rt: &R,
-    text: &str,
-    output: &[u8],
-) -> Result<bool> {
+pub(crate) fn is_output<R: Files + AllocGlobal>(rt: &R, text: &str, output: &[u8]) -> Result<bool> {
     let (kind, rest) = text.split_once(' ').unwrap_or((text, ""));
     match kind {
         "nothing" => Ok(output.is_empty()),

@@ -1,4 +1,4 @@
-use Rattle.std.proofs.Common.{◌≡◌, inl, inr, ℕ, List, sym, ap, ◌∙◌, subst}
+use Rattle.std.proofs.Common.{inl, inr, ℕ, List, sym, ap, ◌∙◌, subst}
 use Rattle.omos_model.specs.FirstImage.{FirstImage}
 use Rattle.omosd_calls.specs.declared.ending.Ending.TheVariants.{Refused, SinkFailed}
 use Rattle.omosd_calls.specs.Ending.{status_of}
