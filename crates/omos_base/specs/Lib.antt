@@ -1,3 +1,5 @@
 pub mod Fault
 pub mod Fields
+pub mod Limits
+pub mod SymNames
 pub use Rattle.byteorder.specs.Endian
