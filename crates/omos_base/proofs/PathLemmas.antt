@@ -3,7 +3,7 @@ use Rattle.std.proofs.Common.{◌≡◌, ℕ, zero, suc, ◌+◌, ◌<◌, ◌�
 use Rattle.std.specs.Prelude.{All}
 use Rattle.std.proofs.lemmas.List.{append-nil, length-append, length-take-le, take-append-drop, take-take, take_more, take_all}
 use Rattle.std.proofs.lemmas.List.Elements.{All-nil, All-cons, All-head, All-tail}
-use Rattle.omos_base.specs.Paths.{IsPartByte, IsPart, AreParts, joined, IsPath, BeginsPath, StopsAt, EndsEarly, HasPathFault}
+use Rattle.omos_base.specs.Paths.{IsPartByte, IsPart, AreParts, joined, IsPath, BeginsPath, HasPathFault}
 use Rattle.omos_base.specs.declared.path_name.PathFault.TheVariants.{Shape}
 
 -- the rest ends a path of which so many parts have begun, the last of them with so many bytes

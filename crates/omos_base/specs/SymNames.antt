@@ -1,5 +1,5 @@
 -- Names of symbols, as lists of bytes.
-use Rattle.std.specs.Prelude.{ℕ, ◌≢◌, ◌<◌, ◌≤◌, ◌≡◌, List, ◌⊎◌, All, length, slice_index, take}
+use Rattle.std.specs.Prelude.{ℕ, ◌≢◌, ◌<◌, ◌≤◌, List, All, length, slice_index, take}
 use Rattle.omos_base.specs.declared.sym_name.NameFault.{NameFault}
 use Rattle.omos_base.specs.declared.sym_name.NameFault.TheVariants.{Length, Byte}
 

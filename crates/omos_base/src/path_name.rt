@@ -31,7 +31,7 @@ pub enum PathFault {
 /// takes memory.
 ///
 /// Paths are ordered by their bytes; a proper prefix comes first.
-#[derive(Drop)]
+#[derive(Debug, Drop)]
 pub struct PathName {
     bytes: ArrayVec<u8, 255>,
 }

@@ -8,7 +8,7 @@ use std::marker::Model;
 use std::sync::Arc;
 
 /// A value with several owners, that contracts see as the value. No owner can change it.
-#[derive(Drop)]
+#[derive(Debug, Drop)]
 pub struct Shared<T> {
     inner: Arc<T>,
 }

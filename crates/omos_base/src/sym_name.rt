@@ -33,7 +33,7 @@ pub enum NameFault {
 /// The name of a symbol, that contracts see as its bytes. It may share them with other names.
 ///
 /// Names are ordered by their bytes; a proper prefix comes first.
-#[derive(Drop)]
+#[derive(Debug, Drop)]
 pub struct SymName {
     bytes: Shared<Bytes>,
 }
