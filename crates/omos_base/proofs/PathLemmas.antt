@@ -1,9 +1,12 @@
 -- What may follow bytes that begin a path.
-use Rattle.std.proofs.Common.{◌≡◌, ℕ, zero, suc, ◌+◌, ◌<◌, ◌≤◌, List, [], ◌∷◌, ◌++◌, ◌⊎◌, inl, inr, length, get_or, take, drop, refl, sym, ap, subst, ◌∙◌, append_assoc, arith}
+use Rattle.std.proofs.Common.{◌≡◌, ℕ, zero, suc, ◌+◌, ◌<◌, ◌≤◌, List, [], ◌∷◌, ◌++◌, ◌⊎◌, inl, inr}
+use Rattle.std.proofs.Common.{length, get_or, take, drop, refl, sym, ap, subst, ◌∙◌, append_assoc, arith}
 use Rattle.std.specs.Prelude.{All}
-use Rattle.std.proofs.lemmas.List.{append-nil, length-append, length-take-le, take-append-drop, take-take, take_more, take_all}
+use Rattle.std.proofs.lemmas.List.{append-nil, length-append, length-take-le, take-append-drop}
+use Rattle.std.proofs.lemmas.List.{take-take, take_more, take_all}
 use Rattle.std.proofs.lemmas.List.Elements.{All-nil, All-cons, All-head, All-tail}
-use Rattle.omos_base.specs.Paths.{IsPartByte, IsPart, AreParts, joined, IsPath, BeginsPath, HasPathFault}
+use Rattle.omos_base.specs.Paths.{IsPartByte, IsPart, AreParts, joined}
+use Rattle.omos_base.specs.Paths.{IsPath, BeginsPath, HasPathFault}
 use Rattle.omos_base.specs.declared.path_name.PathFault.TheVariants.{Shape}
 
 -- the rest ends a path of which so many parts have begun, the last of them with so many bytes
@@ -17,7 +20,8 @@ Follows count size (byte ∷ rest) =
 abbrev pub AreJoined : List ℕ → Type 0
 AreJoined bytes = (parts : List (List ℕ)) × AreParts parts × (bytes ≡ joined parts)
 
--- so many parts have begun in these bytes, the last of them with so many bytes
+-- so many parts have begun in these bytes, the last of them with so many bytes: what may follow
+-- them is what follows such a beginning
 pub record Stands (read : List ℕ) (count size : ℕ) : Type 0 where
   pub few : count ≤ 16
   pub short : size ≤ 64
@@ -28,17 +32,28 @@ pub record Stands (read : List ℕ) (count size : ℕ) : Type 0 where
 slash_in_part : (byte : ℕ) → byte ≡ 47 → IsPartByte byte → ⊥
 slash_in_part byte e h = grind arith
 
-follows_part : (part : List ℕ) (count size : ℕ) (rest : List ℕ) → All IsPartByte part → size + length part ≤ 64 → Follows count (size + length part) rest → Follows count size (part ++ rest)
+-- the rest of a part, and then parts, follow
+follows_part : (part : List ℕ) (count size : ℕ) (rest : List ℕ) → All IsPartByte part
+    → size + length part ≤ 64 → Follows count (size + length part) rest
+    → Follows count size (part ++ rest)
 follows_part [] count size rest all fits h = subst (λ n. Follows count n rest) (omega arith) h
 follows_part (byte ∷ part) count size rest all fits h =
     let same : size + suc (length part) ≡ size + 1 + length part = omega arith in
-    inr (All-head IsPartByte byte part all, omega arith, follows_part part count (size + 1) rest (All-tail IsPartByte byte part all) (omega arith) (subst (λ n. Follows count n rest) same h))
+    let next : Follows count (size + 1 + length part) rest =
+    subst (λ n. Follows count n rest) same h in
+    let letters = All-tail IsPartByte byte part all in
+    let after = follows_part part count (size + 1) rest letters (omega arith) next in
+    inr (All-head IsPartByte byte part all, omega arith, after)
 
-follows_parts : (parts : List (List ℕ)) (count size : ℕ) → 1 ≤ size → count + length parts ≤ 16 → All IsPart parts → Follows count size (joined parts)
+follows_parts : (parts : List (List ℕ)) (count size : ℕ) → 1 ≤ size → count + length parts ≤ 16
+    → All IsPart parts → Follows count size (joined parts)
 follows_parts [] count size some fits all = some
 follows_parts (part ∷ parts) count size some fits all =
     let this : IsPart part = All-head IsPart part parts all in
-    inl (refl, some, omega arith, follows_part part (count + 1) 0 (joined parts) this.2 (omega arith) (follows_parts parts (count + 1) (0 + length part) (omega arith) (omega arith) (All-tail IsPart part parts all)))
+    let later = All-tail IsPart part parts all in
+    let next = follows_parts parts (count + 1) (0 + length part) (omega arith) (omega arith) later in
+    let after = follows_part part (count + 1) 0 (joined parts) this.2 (omega arith) next in
+    inl (refl, some, omega arith, after)
 
 -- the end of a path: what the last part lacks, and the parts after it
 record Ending (count size : ℕ) (rest : List ℕ) : Type 0 where
@@ -51,30 +66,67 @@ record Ending (count size : ℕ) (rest : List ℕ) : Type 0 where
   all : All IsPart parts
   is : rest ≡ part ++ joined parts
 
-ending : (rest : List ℕ) (count size : ℕ) → count ≤ 16 → size ≤ 64 → Follows count size rest → Ending count size rest
-ending [] count size few short h = record { part = []; parts = []; some = omega arith; short = omega arith; letters = All-nil IsPartByte; few = omega arith; all = All-nil IsPart; is = refl }
+-- what follows is such an end
+ending : (rest : List ℕ) (count size : ℕ) → count ≤ 16 → size ≤ 64 → Follows count size rest
+    → Ending count size rest
+ending [] count size few short h = record {
+  part = [];
+  parts = [];
+  some = omega arith;
+  short = omega arith;
+  letters = All-nil IsPartByte;
+  few = omega arith;
+  all = All-nil IsPart;
+  is = refl;
+}
 ending (byte ∷ rest) count size few short h =
     elim h [
-      | inl s ↦ let e = ending rest (count + 1) 0 (omega arith) (omega arith) s.3 in
-          record { part = []; parts = e.part ∷ e.parts; some = omega arith; short = omega arith; letters = All-nil IsPartByte; few = omega arith; all = All-cons IsPart e.part e.parts (omega arith, omega arith, e.letters) e.all; is = cc }
-      | inr s ↦ let e = ending rest count (size + 1) few (omega arith) s.2 in
-          record { part = byte ∷ e.part; parts = e.parts; some = omega arith; short = omega arith; letters = All-cons IsPartByte byte e.part s.0 e.letters; few = e.few; all = e.all; is = cc }
+      | inl s ↦
+          let e = ending rest (count + 1) 0 (omega arith) (omega arith) s.3 in
+          let this : IsPart e.part = (omega arith, omega arith, e.letters) in
+          record {
+            part = [];
+            parts = e.part ∷ e.parts;
+            some = omega arith;
+            short = omega arith;
+            letters = All-nil IsPartByte;
+            few = omega arith;
+            all = All-cons IsPart e.part e.parts this e.all;
+            is = cc;
+          }
+      | inr s ↦
+          let e = ending rest count (size + 1) few (omega arith) s.2 in
+          record {
+            part = byte ∷ e.part;
+            parts = e.parts;
+            some = omega arith;
+            short = omega arith;
+            letters = All-cons IsPartByte byte e.part s.0 e.letters;
+            few = e.few;
+            all = e.all;
+            is = cc;
+          }
     ]
 
-after_slash : (parts : List (List ℕ)) (rest : List ℕ) → AreParts parts → 47 ∷ rest ≡ joined parts → Follows 1 0 rest
+after_slash : (parts : List (List ℕ)) (rest : List ℕ) → AreParts parts → 47 ∷ rest ≡ joined parts
+    → Follows 1 0 rest
 after_slash [] rest are is = absurd (omega arith)
 after_slash (part ∷ parts) rest are is =
     let this : IsPart part = All-head IsPart part parts are.2 in
+    let later = All-tail IsPart part parts are.2 in
     let same : rest ≡ part ++ joined parts = cc in
-    rw same (follows_part part 1 0 (joined parts) this.2 (omega arith) (follows_parts parts 1 (0 + length part) (omega arith) (omega arith) (All-tail IsPart part parts are.2)))
+    let next = follows_parts parts 1 (0 + length part) (omega arith) (omega arith) later in
+    rw same (follows_part part 1 0 (joined parts) this.2 (omega arith) next)
 
 from_slash : (rest : List ℕ) → Follows 1 0 rest → AreJoined (47 ∷ rest)
 from_slash rest h =
     let e = ending rest 1 0 (omega arith) (omega arith) h in
-    (e.part ∷ e.parts, (omega arith, omega arith, All-cons IsPart e.part e.parts (omega arith, omega arith, e.letters) e.all), cc)
+    let this : IsPart e.part = (omega arith, omega arith, e.letters) in
+    let all = All-cons IsPart e.part e.parts this e.all in
+    (e.part ∷ e.parts, (omega arith, omega arith, all), cc)
 
 -- a path begins with a `/`
-pub stands_first : Stands (47 ∷ []) 1 0
+stands_first : Stands (47 ∷ []) 1 0
 stands_first = record {
   few = omega arith;
   short = omega arith;
@@ -84,7 +136,8 @@ stands_first = record {
 }
 
 -- after a part comes the `/` of the next
-pub stands_slash : (read : List ℕ) (byte count size : ℕ) → byte ≡ 47 → Stands read count size → 1 ≤ size → count < 16 → length read < 254 → Stands (read ++ byte ∷ []) (count + 1) 0
+stands_slash : (read : List ℕ) (byte count size : ℕ) → byte ≡ 47 → Stands read count size
+    → 1 ≤ size → count < 16 → length read < 254 → Stands (read ++ byte ∷ []) (count + 1) 0
 stands_slash read byte count size e s some few room = record {
   few = omega arith;
   short = omega arith;
@@ -92,11 +145,13 @@ stands_slash read byte count size e s some few room = record {
   goes_on = λ rest j.
       let h : Follows count size (byte ∷ rest) = s.goes_on (byte ∷ rest) (rw append_assoc at j) in
       elim h [ inl w ↦ w.3 | inr w ↦ absurd (slash_in_part byte e w.0) ];
-  comes_back = λ rest h. rw append_assoc (s.comes_back (byte ∷ rest) (inl (e, some, few, h)));
+  comes_back = λ rest h.
+      rw append_assoc (s.comes_back (byte ∷ rest) (inl (e, some, few, h)));
 }
 
 -- a part goes on
-pub stands_byte : (read : List ℕ) (byte count size : ℕ) → IsPartByte byte → Stands read count size → size < 64 → Stands (read ++ byte ∷ []) count (size + 1)
+stands_byte : (read : List ℕ) (byte count size : ℕ) → IsPartByte byte → Stands read count size
+    → size < 64 → Stands (read ++ byte ∷ []) count (size + 1)
 stands_byte read byte count size letter s short = record {
   few = s.few;
   short = omega arith;
@@ -104,16 +159,19 @@ stands_byte read byte count size letter s short = record {
   goes_on = λ rest j.
       let h : Follows count size (byte ∷ rest) = s.goes_on (byte ∷ rest) (rw append_assoc at j) in
       elim h [ inl w ↦ absurd (slash_in_part byte w.0 letter) | inr w ↦ w.2 ];
-  comes_back = λ rest h. rw append_assoc (s.comes_back (byte ∷ rest) (inr (letter, short, h)));
+  comes_back = λ rest h.
+      rw append_assoc (s.comes_back (byte ∷ rest) (inr (letter, short, h)));
 }
 
 letter : IsPartByte 97
 letter = inl (inr (omega arith, omega arith))
 
 -- with an `a` after a `/`, and else with nothing, the bytes are a path
-begins : (read : List ℕ) (count size : ℕ) → length read ≤ 255 → Stands read count size → BeginsPath read
+begins : (read : List ℕ) (count size : ℕ) → length read ≤ 255 → Stands read count size
+    → BeginsPath read
 begins read count zero fits s =
-    let j : AreJoined (read ++ 97 ∷ []) = s.comes_back (97 ∷ []) (inr (letter, omega arith, omega arith)) in
+    let h : Follows count 0 (97 ∷ []) = inr (letter, omega arith, omega arith) in
+    let j : AreJoined (read ++ 97 ∷ []) = s.comes_back (97 ∷ []) h in
     (97 ∷ [], (j.0, j.1, j.2, omega (arith, length-append read (97 ∷ []), s.room refl)))
 begins read count (suc n) fits s =
     let j : AreJoined (read ++ []) = s.comes_back [] (omega arith) in
@@ -122,25 +180,41 @@ begins read count (suc n) fits s =
 begins_before : (whole : List ℕ) (n : ℕ) → BeginsPath whole → BeginsPath (take n whole)
 begins_before whole n b =
     let P : List ℕ → Type 0 = IsPath in
-    let same : take n whole ++ (drop n whole ++ b.0) ≡ whole ++ b.0 = sym (append_assoc (take n whole) (drop n whole) b.0) ∙ ap (λ w. w ++ b.0) (take-append-drop n whole) in
+    let same : take n whole ++ (drop n whole ++ b.0) ≡ whole ++ b.0 =
+    sym (append_assoc (take n whole) (drop n whole) b.0)
+    ∙ ap (λ w. w ++ b.0) (take-append-drop n whole) in
     (drop n whole ++ b.0, subst P (sym same) b.1)
 
-no_path : (read : List ℕ) (byte count size : ℕ) → Stands read count size → ((rest : List ℕ) → length read + length rest < 255 → Follows count size (byte ∷ rest) → ⊥) → BeginsPath (read ++ byte ∷ []) → ⊥
+no_path : (read : List ℕ) (byte count size : ℕ) → Stands read count size
+    → ((rest : List ℕ) → length read + length rest < 255 → Follows count size (byte ∷ rest) → ⊥)
+    → BeginsPath (read ++ byte ∷ []) → ⊥
 no_path read byte count size s none b =
     let p : IsPath (read ++ byte ∷ b.0) = rw append_assoc at b.1 in
-    none b.0 (omega (arith, p.3, length-append read (byte ∷ b.0))) (s.goes_on (byte ∷ b.0) (p.0, p.1, p.2))
+    let short : length read + length b.0 < 255 =
+    omega (arith, p.3, length-append read (byte ∷ b.0)) in
+    none b.0 short (s.goes_on (byte ∷ b.0) (p.0, p.1, p.2))
 
 -- where no rest with the next byte ends a path, the bytes stop there
-stops : (bytes : List ℕ) (place count size : ℕ) → place < length bytes → length bytes ≤ 255 → Stands (take place bytes) count size → ((rest : List ℕ) → place + length rest < 255 → Follows count size (get_or bytes place 0 ∷ rest) → ⊥) → HasPathFault bytes (Shape place)
+stops : (bytes : List ℕ) (place count size : ℕ) → place < length bytes → length bytes ≤ 255
+    → Stands (take place bytes) count size
+    → ((rest : List ℕ) → place + length rest < 255
+    → Follows count size (get_or bytes place 0 ∷ rest) → ⊥)
+    → HasPathFault bytes (Shape place)
 stops bytes place count size within fits s none =
-    let long : length (take place bytes) ≡ place = length-take-le place bytes (omega arith) in
-    let more : take (place + 1) bytes ≡ take place bytes ++ get_or bytes place 0 ∷ [] = take_more bytes place 0 within in
-    let whole : BeginsPath (take place bytes) = begins (take place bytes) count size (omega arith) s in (
+    let read : List ℕ = take place bytes in
+    let long : length read ≡ place = length-take-le place bytes (omega arith) in
+    let more : take (place + 1) bytes ≡ read ++ get_or bytes place 0 ∷ [] =
+    take_more bytes place 0 within in
+    let whole : BeginsPath read = begins read count size (omega arith) s in (
       fits,
       inl (
         within,
-        (λ b. no_path (take place bytes) (get_or bytes place 0) count size s (λ rest short h. none rest (omega arith) h) (rw more at b)),
-        λ earlier before. let same : take (earlier + 1) (take place bytes) ≡ take (earlier + 1) bytes = take-take (earlier + 1) place bytes (omega arith) in rw same at (begins_before (take place bytes) (earlier + 1) whole),
+        (λ b. no_path read (get_or bytes place 0) count size s
+            (λ rest short h. none rest (omega arith) h) (rw more at b)),
+        λ earlier before.
+            let same : take (earlier + 1) read ≡ take (earlier + 1) bytes =
+            take-take (earlier + 1) place bytes (omega arith) in
+            rw same at (begins_before read (earlier + 1) whole),
       ),
     )
 
@@ -149,21 +223,28 @@ none_past_slash [] count e h = omega arith
 none_past_slash (byte ∷ rest) count e h = omega arith
 
 -- no `/` comes after another, after the 16th part, or as the last byte that a path may have
-pub stops_at_slash : (bytes : List ℕ) (place count size : ℕ) → place < length bytes → length bytes ≤ 255 → get_or bytes place 0 ≡ 47 → Stands (take place bytes) count size → (1 ≤ size → count < 16 → place < 254 → ⊥) → HasPathFault bytes (Shape place)
+pub stops_at_slash : (bytes : List ℕ) (place count size : ℕ) → place < length bytes
+    → length bytes ≤ 255 → get_or bytes place 0 ≡ 47 → Stands (take place bytes) count size
+    → (1 ≤ size → count < 16 → place < 254 → ⊥) → HasPathFault bytes (Shape place)
 stops_at_slash bytes place count size within fits e s barred =
     stops bytes place count size within fits s (λ rest short h.
     elim h [
-      | inl w ↦ none_past_slash rest (count + 1) (let far : place < 254 → ⊥ = barred w.1 w.2 in omega arith) w.3
+      | inl w ↦
+          let far : place < 254 → ⊥ = barred w.1 w.2 in
+          none_past_slash rest (count + 1) (omega arith) w.3
       | inr w ↦ slash_in_part (get_or bytes place 0) e w.0
     ])
 
 -- no other byte comes after 64 of a part, and none that a part may not have
-pub stops_at_byte : (bytes : List ℕ) (place count size : ℕ) → place < length bytes → length bytes ≤ 255 → (get_or bytes place 0 ≡ 47 → ⊥) → Stands (take place bytes) count size → (size < 64 → IsPartByte (get_or bytes place 0) → ⊥) → HasPathFault bytes (Shape place)
+pub stops_at_byte : (bytes : List ℕ) (place count size : ℕ) → place < length bytes
+    → length bytes ≤ 255 → (get_or bytes place 0 ≡ 47 → ⊥) → Stands (take place bytes) count size
+    → (size < 64 → IsPartByte (get_or bytes place 0) → ⊥) → HasPathFault bytes (Shape place)
 stops_at_byte bytes place count size within fits e s barred =
     stops bytes place count size within fits s (λ rest short h.
     elim h [ inl w ↦ e w.0 | inr w ↦ barred w.1 w.0 ])
 
-head_is_slash : (parts : List (List ℕ)) (byte : ℕ) (rest : List ℕ) → byte ∷ rest ≡ joined parts → byte ≡ 47
+head_is_slash : (parts : List (List ℕ)) (byte : ℕ) (rest : List ℕ) → byte ∷ rest ≡ joined parts
+    → byte ≡ 47
 head_is_slash [] byte rest is = cc
 head_is_slash (part ∷ parts) byte rest is = cc
 
@@ -172,14 +253,24 @@ no_empty_path [] are is = omega arith
 no_empty_path (part ∷ parts) are is = cc
 
 -- bytes that do not begin with a `/` stop at once
-pub stops_at_once : (bytes : List ℕ) → length bytes ≤ 255 → (0 < length bytes → get_or bytes 0 0 ≡ 47 → ⊥) → HasPathFault bytes (Shape 0)
+pub stops_at_once : (bytes : List ℕ) → length bytes ≤ 255
+    → (0 < length bytes → get_or bytes 0 0 ≡ 47 → ⊥) → HasPathFault bytes (Shape 0)
 stops_at_once [] fits none =
-    (fits, inr (refl, begins_before (47 ∷ []) 0 (begins (47 ∷ []) 1 0 (omega arith) stands_first), λ p. no_empty_path p.0 p.1 p.2))
-stops_at_once (byte ∷ bytes) fits none =
-    (fits, inl (omega arith, (λ b. none (omega arith) (head_is_slash b.1.0 byte b.0 b.1.2)), λ earlier before. absurd (omega arith)))
+    let slash : BeginsPath (47 ∷ []) = begins (47 ∷ []) 1 0 (omega arith) stands_first in
+    (fits, inr (refl, begins_before (47 ∷ []) 0 slash, λ p. no_empty_path p.0 p.1 p.2))
+stops_at_once (byte ∷ bytes) fits none = (
+  fits,
+  inl (
+    omega arith,
+    (λ b. none (omega arith) (head_is_slash b.1.0 byte b.0 b.1.2)),
+    λ earlier before. absurd (omega arith),
+  ),
+)
 
 -- bytes that end with a `/` end early
-pub ends_early : (bytes : List ℕ) (place count size : ℕ) → length bytes ≤ place → length bytes ≤ 255 → Stands (take place bytes) count size → size ≡ 0 → HasPathFault bytes (Shape (length bytes))
+pub ends_early : (bytes : List ℕ) (place count size : ℕ) → length bytes ≤ place
+    → length bytes ≤ 255 → Stands (take place bytes) count size → size ≡ 0
+    → HasPathFault bytes (Shape (length bytes))
 ends_early bytes place count size past fits s e =
     let P : List ℕ → Type 0 = λ read. Stands read count size in
     let t : Stands bytes count size = subst P (take_all place bytes past) s in (
@@ -188,27 +279,37 @@ ends_early bytes place count size past fits s e =
         refl,
         begins bytes count size fits t,
         λ p.
-            let h : Follows count size [] = t.goes_on [] (rw append-nil (p.0, p.1, p.2)) in omega arith,
+            let h : Follows count size [] = t.goes_on [] (rw append-nil (p.0, p.1, p.2)) in
+            omega arith,
       ),
     )
 
 -- bytes that end in a part are a path
-pub is_path : (bytes : List ℕ) (place count size : ℕ) → length bytes ≤ place → length bytes ≤ 255 → Stands (take place bytes) count size → 1 ≤ size → IsPath bytes
+pub is_path : (bytes : List ℕ) (place count size : ℕ) → length bytes ≤ place
+    → length bytes ≤ 255 → Stands (take place bytes) count size → 1 ≤ size → IsPath bytes
 is_path bytes place count size past fits s some =
     let P : List ℕ → Type 0 = λ read. Stands read count size in
     let t : Stands bytes count size = subst P (take_all place bytes past) s in
     let j : AreJoined bytes = rw append-nil at (t.comes_back [] some) in
     (j.0, j.1, j.2, fits)
 
-pub stands_begun : (bytes : List ℕ) → 0 < length bytes → get_or bytes 0 0 ≡ 47 → Stands (take 1 bytes) 1 0
+pub stands_begun : (bytes : List ℕ) → 0 < length bytes → get_or bytes 0 0 ≡ 47
+    → Stands (take 1 bytes) 1 0
 stands_begun [] some e = absurd (omega arith)
 stands_begun (byte ∷ bytes) some e = rw e stands_first
 
-pub stands_more_slash : (bytes : List ℕ) (place count size : ℕ) → place < length bytes → get_or bytes place 0 ≡ 47 → Stands (take place bytes) count size → 1 ≤ size → count < 16 → place < 254 → Stands (take (place + 1) bytes) (count + 1) 0
+pub stands_more_slash : (bytes : List ℕ) (place count size : ℕ) → place < length bytes
+    → get_or bytes place 0 ≡ 47 → Stands (take place bytes) count size
+    → 1 ≤ size → count < 16 → place < 254 → Stands (take (place + 1) bytes) (count + 1) 0
 stands_more_slash bytes place count size within e s some few room =
-    let long : length (take place bytes) ≡ place = length-take-le place bytes (omega arith) in
-    rw (take_more bytes place 0 within) (stands_slash (take place bytes) (get_or bytes place 0) count size e s some few (omega arith))
+    let read : List ℕ = take place bytes in
+    let long : length read ≡ place = length-take-le place bytes (omega arith) in
+    let more = stands_slash read (get_or bytes place 0) count size e s some few (omega arith) in
+    rw (take_more bytes place 0 within) more
 
-pub stands_more_byte : (bytes : List ℕ) (place count size : ℕ) → place < length bytes → IsPartByte (get_or bytes place 0) → Stands (take place bytes) count size → size < 64 → Stands (take (place + 1) bytes) count (size + 1)
+pub stands_more_byte : (bytes : List ℕ) (place count size : ℕ) → place < length bytes
+    → IsPartByte (get_or bytes place 0) → Stands (take place bytes) count size → size < 64
+    → Stands (take (place + 1) bytes) count (size + 1)
 stands_more_byte bytes place count size within letter s short =
-    rw (take_more bytes place 0 within) (stands_byte (take place bytes) (get_or bytes place 0) count size letter s short)
+    let more = stands_byte (take place bytes) (get_or bytes place 0) count size letter s short in
+    rw (take_more bytes place 0 within) more

@@ -7,7 +7,8 @@ use Rattle.omos_base.specs.declared.path_name.PathFault.TheVariants.{Long, Shape
 
 -- an ASCII letter or digit, or one of `.`, `_`, `+` and `-`
 abbrev pub IsPartByte : ℕ → Type 0
-IsPartByte byte = IsAsciiAlphanumeric byte ⊎ (byte ≡ 46) ⊎ (byte ≡ 95) ⊎ (byte ≡ 43) ⊎ (byte ≡ 45)
+IsPartByte byte =
+    IsAsciiAlphanumeric byte ⊎ (byte ≡ 46) ⊎ (byte ≡ 95) ⊎ (byte ≡ 43) ⊎ (byte ≡ 45)
 
 -- a part of a path has 1 to 64 bytes
 abbrev pub IsPart : List ℕ → Type 0

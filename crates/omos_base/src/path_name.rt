@@ -1,6 +1,7 @@
 //! The paths of entries.
 
-ghost use Rattle.std.specs.Prelude.{◌≡◌, ◌↔◌, ◌≤◌, ℕ, length, IsTrue, MatchOption, MatchResult, refl, nat_eq};
+ghost use Rattle.std.specs.Prelude.{◌≡◌, ◌↔◌, ◌≤◌, ℕ, length, IsTrue, refl, nat_eq};
+ghost use Rattle.std.specs.Prelude.{MatchOption, MatchResult};
 ghost use Rattle.std.proofs.Common.{rules};
 ghost use Rattle.std.specs.Cmp.{partial_order_from_own_ties};
 ghost use Rattle.std.specs.Cmp.Lexicographic.{pointwise, slice_cmp};
@@ -62,7 +63,7 @@ fn shape_fault(bytes: &[u8]) -> Option<u32>
     ensures { MatchOption result (IsPath bytes.now)
         (λ place. HasPathFault bytes.now (PathFault.Shape place)) }
 {
-    if bytes.is_empty() || bytes[0] != b'/' {
+    if !bytes.starts_with(b"/") {
         return Some(0);
     }
     let mut parts = 1u32;
@@ -70,6 +71,7 @@ fn shape_fault(bytes: &[u8]) -> Option<u32>
     for place in 1..bytes.len() {
         let byte = bytes[place];
         if byte == b'/' {
+            // A part stands before it, and one more fits, of a byte at least.
             if size == 0 || parts == 16 || place == 254 {
                 return Some(place as u32);
             }

@@ -54,7 +54,7 @@ impl Model for SymName {
 fn is_name_byte(byte: u8) -> bool
     ensures { IsTrue result ↔ IsNameByte byte }
 {
-    byte > b' ' && !matches!(byte, 0x7f | b'"' | b'(' | b')' | b';')
+    matches!(byte, 0x21..=0x7e | 0x80..=0xff) && !matches!(byte, b'"' | b'(' | b')' | b';')
 }
 
 /// The place of the first byte that a name may not have.
