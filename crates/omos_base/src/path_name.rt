@@ -24,7 +24,7 @@ pub enum PathFault {
     Long,
     /// The bytes up to and with the one at this place, counted from 0, begin no path, and no
     /// earlier byte does that; or this is their length, where they begin a path and are none.
-    #[error("no path goes on at byte {0}")]
+    #[error("the path is ill-formed at byte {0}")]
     Shape(u32),
 }
 

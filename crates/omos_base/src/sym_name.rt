@@ -26,7 +26,7 @@ pub enum NameFault {
     #[error("a name has 1 to 1,024 bytes")]
     Length,
     /// The byte at this place, counted from 0, is the first that a name may not have.
-    #[error("the byte at {0} may not stand in a name")]
+    #[error("the byte at place {0} may not stand in a name")]
     Byte(u32),
 }
 
