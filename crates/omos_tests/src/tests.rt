@@ -1,3 +1,7 @@
+//! The tests, by subject.
+
+mod names;
+
 use elf_object::{Early, first_form};
 use omos_base::{Bytes, Row, put_u16, put_u32, put_u64, u16_at, u32_at, u64_at};
 use omos_model::ObjectFault;
@@ -60,5 +64,10 @@ fn the_plain_forms_in_memory(rt: HostRuntime) -> Result<(), Fail> {
 fn early_answers(rt: HostRuntime) {
     let header = [0; 64];
     assert!(rt; matches!(first_form(&header), Err(Early::Object(ObjectFault::NotElf))));
-    assert!(rt; matches!(first_form(&header[1..]), Err(Early::Object(ObjectFault::Length))));
+    assert!(rt;
+        matches!(
+            first_form(&header[1..]),
+            Err(Early::Object(ObjectFault::Length))
+        )
+    );
 }
