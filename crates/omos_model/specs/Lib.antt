@@ -1,0 +1,2 @@
+pub mod FragmentParts
+pub mod ImageParts

@@ -1,0 +1,19 @@
+//! The linker's types, and what the server means by a namespace, a module and a refusal.
+//!
+//! The definitions stand in specs/. Nothing here reads a file, keeps a table or evaluates.
+#![tactic(auto)]
+
+mod entry;
+mod expr;
+mod fragment;
+pub mod laws;
+mod mark;
+mod refusal;
+mod visit;
+
+pub use entry::{Entry, Image, Stamped, Start};
+pub use expr::Expr;
+pub use fragment::{Aim, Export, Fixup, Fragment, FragmentFault, Group, Kind, Piece, Spot};
+pub use mark::{Landing, Mark, MarkRow, Target};
+pub use refusal::{BpFault, ObjectFault, Refusal, Site};
+pub use visit::Visit;
