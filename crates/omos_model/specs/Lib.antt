@@ -4,3 +4,13 @@ pub mod Numbers
 pub mod ElfFields
 pub mod ElfFaults
 pub mod FragmentOf
+pub mod NameLists
+pub mod Op
+pub mod Tree
+pub mod Term
+pub mod Definition
+pub mod State
+pub mod FirstRefusal
+pub mod Namespace
+pub mod Expansion
+pub mod Footprint
