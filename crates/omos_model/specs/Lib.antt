@@ -14,3 +14,4 @@ pub mod FirstRefusal
 pub mod Namespace
 pub mod Expansion
 pub mod Footprint
+pub mod Laws
