@@ -1,3 +1,6 @@
 pub mod Fault
 pub mod Fields
+pub mod Limits
+pub mod Paths
+pub mod SymNames
 pub use Rattle.byteorder.specs.Endian
