@@ -7,7 +7,7 @@ use Rattle.std.specs.declared.cmp.Ordering.TheVariants.{Less, Equal, Greater}
 use Rattle.std.proofs.lemmas.Cmp.{nat_list_cmp_total, upto, tied_itself}
 use Rattle.std.proofs.lemmas.Map.Lookups.{exact_bytes}
 use Rattle.std.proofs.lemmas.Bool.{and_parts, or_cases}
-use Rattle.omos_base.specs.Names.{Name, same_name, name_cmp}
+use Rattle.omos_model.specs.Names.{Name, same_name, name_cmp}
 use Rattle.omos_model.specs.NameLists.{is_among, lesser, least, IsLeast}
 use Rattle.omos_model.proofs.Names.{same_name-true}
 

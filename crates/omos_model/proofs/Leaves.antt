@@ -1,7 +1,7 @@
 -- The leaves of an expansion are numbered from where its visit begins.
 use Rattle.std.proofs.Common.{◌≡◌, ℕ, zero, suc, ◌+◌, Bool, true, false, List, [], ◌∷◌, ◌++◌, Option, Some, None, Ok, Err, refl, sym, ap, ◌∙◌, subst, cond, arith}
 use Rattle.std.specs.Prelude.{nat_lt, nat_le, ◌&&◌, length}
-use Rattle.omos_base.specs.Names.{Name}
+use Rattle.omos_model.specs.Names.{Name}
 use Rattle.omos_model.specs.FragmentParts.{FragmentParts}
 use Rattle.omos_model.specs.Laws.{LeavesLaw}
 use Rattle.omos_model.specs.NameLists.{is_among}

@@ -3,7 +3,7 @@ use Rattle.std.proofs.Common.{◌≡◌, ℕ, Bool, true, false, refl, sym, ◌�
 use Rattle.std.specs.Ordering.{is_eq}
 use Rattle.std.proofs.lemmas.Map.Text.{is_eq-slice_cmp}
 use Rattle.std.proofs.lemmas.Slice.Eq.{bytes_eq-Decides}
-use Rattle.omos_base.specs.Names.{Name, same_name, name_cmp}
+use Rattle.omos_model.specs.Names.{Name, same_name, name_cmp}
 
 pub same_name-true : (a b : Name) → same_name a b ≡ true → a ≡ b
 same_name-true a b = (bytes_eq-Decides a b).0

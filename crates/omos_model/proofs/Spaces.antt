@@ -10,7 +10,7 @@ use Rattle.std.proofs.lemmas.Cmp.{nat_list_cmp_total}
 use Rattle.std.proofs.lemmas.List.{reverse-append}
 use Rattle.std.proofs.lemmas.List.Folds.{find-append}
 use Rattle.std.proofs.lemmas.Map.Lookups.{exact_bytes}
-use Rattle.omos_base.specs.Names.{Name, same_name, name_cmp}
+use Rattle.omos_model.specs.Names.{Name, same_name, name_cmp}
 use Rattle.omos_model.specs.Laws.{LastPutLaw, OrderLaw}
 use Rattle.omos_model.specs.Namespace.{Space, look_up, with_entry, stamped_from, namespace_at}
 use Rattle.omos_model.specs.declared.entry.Stamped.{Stamped}

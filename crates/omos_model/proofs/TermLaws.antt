@@ -6,7 +6,7 @@ use Rattle.std.specs.Option.{option_or, option_map}
 use Rattle.std.proofs.lemmas.Grind.{common_steps}
 use Rattle.std.proofs.lemmas.List.Folds.{list_any-append, list_all-append}
 use Rattle.std.proofs.lemmas.Bool.{and_parts, and_from, and_right, not-true, eqb-true}
-use Rattle.omos_base.specs.Names.{Name, same_name}
+use Rattle.omos_model.specs.Names.{Name, same_name}
 use Rattle.omos_model.specs.Op.{Op, Restrict, Freeze, Hide}
 use Rattle.omos_model.specs.NameLists.{is_among, distinct}
 use Rattle.omos_model.specs.Term.{Term, Leaf, Merge, Override, Apply, leaf_numbers}

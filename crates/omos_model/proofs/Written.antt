@@ -5,7 +5,7 @@ use Rattle.std.specs.List.{list_any, find}
 use Rattle.std.specs.Option.{option_or, option_map}
 use Rattle.std.proofs.lemmas.List.Folds.{list_any-append}
 use Rattle.std.proofs.lemmas.Bool.{and_parts, or_left, or_right}
-use Rattle.omos_base.specs.Names.{Name, same_name}
+use Rattle.omos_model.specs.Names.{Name, same_name}
 use Rattle.omos_model.specs.Op.{Op, Rename, Restrict, Freeze, Hide, Show, CopyAs}
 use Rattle.omos_model.specs.NameLists.{is_among, lesser, least, IsLeast}
 use Rattle.omos_model.specs.Term.{Term, Leaf, Merge, Override, Apply}

@@ -2,7 +2,7 @@
 use Rattle.std.specs.Prelude.{ℕ, Bool, if◌then◌else◌, List, [], ◌∷◌, ◌++◌, map, Option, Some, None, is_some}
 use Rattle.std.specs.List.{find}
 use Rattle.std.specs.Option.{option_map, option_or}
-use Rattle.omos_base.specs.Names.{Name, same_name}
+use Rattle.omos_model.specs.Names.{Name, same_name}
 use Rattle.omos_model.specs.NameLists.{is_among}
 use Rattle.omos_model.specs.Op.{Op, Rename, Restrict, Freeze, Hide, Show, CopyAs}
 use Rattle.omos_model.specs.Term.{Term, Leaf, Merge, Override, Apply}

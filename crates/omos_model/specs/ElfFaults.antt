@@ -4,7 +4,7 @@ use Rattle.std.specs.List.{find, list_any, list_all, sum_by, flat_map}
 use Rattle.std.specs.Option.{option_map, option_map_or}
 use Rattle.std.specs.Map.{lookup}
 use Rattle.omos_base.specs.Fields.{number_at}
-use Rattle.omos_base.specs.Names.{same_name, is_symbol_name}
+use Rattle.omos_model.specs.Names.{same_name, is_symbol_name}
 use Rattle.omos_model.specs.FragmentParts.{is_alignment, max_size, max_entries, width}
 use Rattle.omos_model.specs.Numbers.{numbers_from, first_some}
 use Rattle.omos_model.specs.ElfFields.{e_type, e_machine, e_version, e_shoff, e_shentsize, e_shnum}

@@ -3,7 +3,7 @@ use Rattle.std.specs.Prelude.{ℕ, ◌+◌, ◌-◌, ◌*◌, ◌/◌, ◌%◌, 
 use Rattle.std.specs.List.{find, take_while}
 use Rattle.std.specs.Int.{cast_signed, w64}
 use Rattle.omos_base.specs.Fields.{number_at}
-use Rattle.omos_base.specs.Names.{Name}
+use Rattle.omos_model.specs.Names.{Name}
 use Rattle.omos_model.specs.Numbers.{numbers_from}
 
 -- ---- the header (gABI, "ELF Header")

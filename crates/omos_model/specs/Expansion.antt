@@ -1,7 +1,7 @@
 -- Expansion: the term that a path stands for, and the paths that are read on the way.
 use Rattle.std.specs.Prelude.{ℕ, zero, suc, ◌+◌, nat_lt, nat_le, ◌&&◌, Bool, true, false, if◌then◌else◌, List, [], ◌∷◌, ◌++◌, length, Option, Some, None, Result, Ok, Err}
 use Rattle.std.specs.Option.{option_map}
-use Rattle.omos_base.specs.Names.{Name}
+use Rattle.omos_model.specs.Names.{Name}
 use Rattle.omos_model.specs.FragmentParts.{FragmentParts}
 use Rattle.omos_model.specs.NameLists.{is_among}
 use Rattle.omos_model.specs.Namespace.{Space, look_up}

@@ -2,7 +2,7 @@
 use Rattle.std.specs.Prelude.{Bool, not, ◌&&◌, ◌||◌, if◌then◌else◌, Option, Some, None, is_some}
 use Rattle.std.specs.List.{find}
 use Rattle.std.specs.Option.{option_or, option_map}
-use Rattle.omos_base.specs.Names.{Name, same_name}
+use Rattle.omos_model.specs.Names.{Name, same_name}
 use Rattle.omos_model.specs.NameLists.{least}
 use Rattle.omos_model.specs.Op.{Op, Rename, Restrict, Freeze, Hide, Show, CopyAs}
 use Rattle.omos_model.specs.Term.{Term, Leaf, Merge, Override, Apply}

@@ -1,7 +1,7 @@
 -- What a path's term depends on.
 use Rattle.std.specs.Prelude.{List, Option, Some, None, Result, Ok, Err}
 use Rattle.std.specs.List.{filter_map}
-use Rattle.omos_base.specs.Names.{Name}
+use Rattle.omos_model.specs.Names.{Name}
 use Rattle.omos_model.specs.Namespace.{Space, look_up}
 use Rattle.omos_model.specs.Expansion.{Visited, expansion}
 use Rattle.omos_model.specs.Term.{Term}

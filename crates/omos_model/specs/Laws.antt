@@ -1,8 +1,9 @@
 -- Laws of the definitions.
-use Rattle.std.specs.Prelude.{◌≡◌, ℕ, ◌==◌, Bool, false, not, ◌&&◌, List, [], ◌∷◌, filter, map, reverse, take, Ok, IsTrue}
+use Rattle.std.specs.Prelude.{◌≡◌, ◌↔◌, ℕ, ◌==◌, Bool, false, not, ◌&&◌, List, [], ◌∷◌, filter, map, reverse, take, Ok, IsTrue}
 use Rattle.std.specs.List.{list_all, list_any, find}
 use Rattle.std.specs.List.Sorted.{IsStrictlySortedBy}
-use Rattle.omos_base.specs.Names.{Name, same_name, name_cmp}
+use Rattle.omos_base.specs.SymNames.{IsSymName}
+use Rattle.omos_model.specs.Names.{Name, same_name, name_cmp, is_symbol_name}
 use Rattle.omos_model.specs.NameLists.{distinct, IsLeast}
 use Rattle.omos_model.specs.Numbers.{numbers_from}
 use Rattle.omos_model.specs.Op.{Op, Restrict, Freeze, Hide}
@@ -62,6 +63,10 @@ MergeLaw =
     → SameModule (Merge s l r) (Merge q r l)
 
 -- ---- two ways to say one thing
+
+-- the test on symbol names that the faults of an object take is right
+abbrev pub NameLaw : Type 0
+NameLaw = (bytes : List ℕ) → IsTrue (is_symbol_name bytes) ↔ IsSymName bytes
 
 -- the list of all references has each one's state
 abbrev pub StatesLaw : Type 0

@@ -1,3 +1,4 @@
+pub mod Names
 pub mod FragmentParts
 pub mod ImageParts
 pub mod Numbers

@@ -2,7 +2,7 @@
 use Rattle.std.specs.Prelude.{ℕ, ◌+◌, List, [], ◌∷◌, take, fold, length, Option}
 use Rattle.std.specs.List.{find}
 use Rattle.std.specs.Ordering.{match_ordering}
-use Rattle.omos_base.specs.Names.{Name, same_name, name_cmp}
+use Rattle.omos_model.specs.Names.{Name, same_name, name_cmp}
 use Rattle.omos_model.specs.declared.entry.Entry.{Entry}
 use Rattle.omos_model.specs.declared.entry.Stamped.{Stamped}
 

@@ -1,6 +1,6 @@
 -- A blueprint's expression as a tree, in which a merge has two operands.
 use Rattle.std.specs.Prelude.{List, [], ◌∷◌, fold}
-use Rattle.omos_base.specs.Names.{Name}
+use Rattle.omos_model.specs.Names.{Name}
 use Rattle.omos_model.specs.Op.{Op, Rename, Restrict, Freeze, Hide, Show, CopyAs}
 use Rattle.omos_model.specs.declared.expr.Expr.{Expr, fold-Expr}
 use Rattle.omos_model.specs.declared.expr.Expr.TheOpen.{Expr-F}

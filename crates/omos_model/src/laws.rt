@@ -1,7 +1,7 @@
 //! Laws of the definitions, each the contract of a function that does nothing.
 
 ghost use Rattle.omos_model.specs.Laws.{HideLaw, MergeLaw, OverrideLaw, StatesLaw, RowsLaw, ConflictLaw};
-ghost use Rattle.omos_model.specs.Laws.{LeavesLaw, LastPutLaw, OrderLaw};
+ghost use Rattle.omos_model.specs.Laws.{LeavesLaw, LastPutLaw, OrderLaw, NameLaw};
 
 /// To hide a name is to freeze it and then to restrict it.
 pub fn hide_is_freeze_then_restrict()
@@ -27,6 +27,11 @@ pub fn states_are_listed()
 /// The conflict of a merge is the least of all names that both sides define.
 pub fn conflict_is_the_least()
     ensures { ConflictLaw }
+{}
+
+/// The test on symbol names that the faults of an object take is right.
+pub fn names_are_tested()
+    ensures { NameLaw }
 {}
 
 /// The leaves of an expansion are numbered from 0, from left to right.

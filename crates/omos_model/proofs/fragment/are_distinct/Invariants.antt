@@ -1,6 +1,6 @@
 use Rattle.std.proofs.Common.{◌≡◌, ◌≤◌, length, drop, true}
 use Rattle.std.specs.BTreeSet.{contains}
-use Rattle.omos_base.specs.Names.{Name, name_cmp}
+use Rattle.omos_model.specs.Names.{Name, name_cmp}
 use Rattle.omos_model.specs.FragmentParts.{is_exported, are_distinct}
 use Rattle.omos_model.proofs.fragment.are_distinct.Given as goal
 
