@@ -16,3 +16,4 @@ pub mod Namespace
 pub mod Expansion
 pub mod Footprint
 pub mod Laws
+pub mod Examples

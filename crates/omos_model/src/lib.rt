@@ -4,6 +4,7 @@
 #![tactic(auto)]
 
 mod entry;
+pub mod examples;
 mod expr;
 mod fragment;
 pub mod laws;
