@@ -17,3 +17,4 @@ pub mod Expansion
 pub mod Footprint
 pub mod Laws
 pub mod Examples
+pub mod ObjectExamples
