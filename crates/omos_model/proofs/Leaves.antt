@@ -1,17 +1,18 @@
 -- The leaves of an expansion are numbered from where its visit begins.
-use Rattle.std.proofs.Common.{◌≡◌, ℕ, zero, suc, ◌+◌, Bool, true, false, List, [], ◌∷◌, ◌++◌, Option, Some, None, Ok, Err, refl, sym, ap, ◌∙◌, subst, cond, arith}
+use Rattle.std.proofs.Common.{◌≡◌, ℕ, zero, suc, ◌+◌, Bool, true, false, List, [], ◌∷◌, ◌++◌}
+use Rattle.std.proofs.Common.{Option, Some, None, Ok, Err, refl, sym, ap, ◌∙◌, subst, cond, arith}
 use Rattle.std.specs.Prelude.{nat_lt, nat_le, ◌&&◌, length}
 use Rattle.omos_model.specs.Names.{Name}
 use Rattle.omos_model.specs.FragmentParts.{FragmentParts}
 use Rattle.omos_model.specs.Laws.{LeavesLaw}
 use Rattle.omos_model.specs.NameLists.{is_among}
-use Rattle.omos_model.specs.Namespace.{Space}
 use Rattle.omos_model.specs.Numbers.{numbers_from}
 use Rattle.omos_model.specs.Term.{Term, Leaf, Merge, Override, Apply, leaf_numbers}
 use Rattle.omos_model.specs.Tree.{Tree}
 use Rattle.omos_model.specs.Tree as tree
-use Rattle.omos_model.specs.Expansion.{Source, Object, Blueprint, Visited, Visitor, and_then, begin, leaf, both, one, visit, add_read, begin_path, nested, entered, unless_cycle, expand, expansion, source, here, first_visit}
-use Rattle.omos_model.specs.declared.refusal.Refusal.{Refusal}
+use Rattle.omos_model.specs.Expansion.{Source, Object, Blueprint, Visited, Visitor, and_then, begin}
+use Rattle.omos_model.specs.Expansion.{leaf, both, one, visit, add_read, begin_path, nested}
+use Rattle.omos_model.specs.Expansion.{entered, unless_cycle, expand, source, here, first_visit}
 use Rattle.omos_model.specs.declared.refusal.Refusal.TheVariants.{Cycle, TooLarge}
 use Rattle.omos_model.specs.declared.refusal.Site.{Site}
 use Rattle.omos_model.specs.declared.visit.Visit.{Visit}
@@ -43,7 +44,7 @@ both_counts join l r joins hl hr v = left (l v) (hl v)
       a + h.0,
       h.1 ∙ ap (λ n. n + h.0) e ∙ omega arith,
       joins t r.0 ∙ ap (λ ns. ns ++ leaf_numbers r.0) f ∙ ap (λ ns. numbers_from v.leaves a ++ ns) (h.2 ∙ ap (λ n. numbers_from n h.0) e)
-      ∙ sym (numbers_from-add v.leaves a h.0),
+          ∙ sym (numbers_from-add v.leaves a h.0),
     )
     right t w a e f (Err x) h = tt
 
@@ -123,9 +124,9 @@ unfolding expand
 expand_counts ns zero above counts at p = entered_counts _ counts at p (λ x. unless_cycle_counts above at p _ (λ v. tt)) (ns p)
 expand_counts ns (suc room) above counts at p =
     entered_counts _ counts at p (
-      λ x.
-          unless_cycle_counts above at p _
-          (begin_path_counts counts at p _ (λ s. nested_counts _ (visit_counts p _ (expand_counts ns room (above ++ p ∷ []) true p) x)))
+    λ x.
+    unless_cycle_counts above at p _
+    (begin_path_counts counts at p _ (λ s. nested_counts _ (visit_counts p _ (expand_counts ns room (above ++ p ∷ []) true p) x)))
     ) (ns p)
 
 pub leaves_law : LeavesLaw

@@ -1,5 +1,6 @@
 -- What a namespace has after its publishes.
-use Rattle.std.proofs.Common.{◌≡◌, ℕ, Bool, true, false, ◌||◌, List, [], ◌∷◌, ◌++◌, Option, Some, None, refl, sym, ap, ◌∙◌, fold, cond, map, reverse, take, subst, true≢false}
+use Rattle.std.proofs.Common.{◌≡◌, Bool, true, false, List, [], ◌∷◌, ◌++◌, Option, Some, None, refl}
+use Rattle.std.proofs.Common.{sym, ap, ◌∙◌, fold, cond, map, reverse, take, subst, true≢false}
 use Rattle.std.specs.List.{find, AllByRecursion}
 use Rattle.std.specs.List.Sorted.{IsStrictlySortedBy}
 use Rattle.std.specs.Option.{option_or}
@@ -12,7 +13,7 @@ use Rattle.std.proofs.lemmas.List.Folds.{find-append}
 use Rattle.std.proofs.lemmas.Map.Lookups.{exact_bytes}
 use Rattle.omos_model.specs.Names.{Name, same_name, name_cmp}
 use Rattle.omos_model.specs.Laws.{LastPutLaw, OrderLaw}
-use Rattle.omos_model.specs.Namespace.{Space, look_up, with_entry, stamped_from, namespace_at}
+use Rattle.omos_model.specs.Namespace.{Space, look_up, with_entry, stamped_from}
 use Rattle.omos_model.specs.declared.entry.Stamped.{Stamped}
 use Rattle.omos_model.proofs.Names.{same_name-true, same_name-refl, is_eq-name_cmp}
 
@@ -55,7 +56,7 @@ after_all (s ∷ ss) ns p =
     let test : Stamped → Bool = λ t. same_name p t.path in
     let back : reverse (s ∷ ss) ≡ reverse ss ++ s ∷ [] = reverse-append (s ∷ []) ss in
     let found : find test (reverse (s ∷ ss)) ≡ option_or (find test (reverse ss)) (cond (test s) (Some s) None) =
-        ap (find test) back ∙ find-append test (reverse ss) (s ∷ []) in
+    ap (find test) back ∙ find-append test (reverse ss) (s ∷ []) in
     after_all ss (with_entry ns s) p
     ∙ ap (λ o. option_or (find test (reverse ss)) o) (look_up-with_entry ns s p)
     ∙ option_or_find (find test (reverse ss)) (look_up ns p) (test s) s

@@ -1,19 +1,21 @@
 -- The laws of the operators, proved.
-use Rattle.std.proofs.Common.{◌≡◌, ℕ, zero, suc, ◌==◌, Bool, true, false, not, ◌&&◌, ◌||◌, List, [], ◌∷◌, ◌++◌, Option, Some, None, refl, sym, ap, ◌∙◌, inl, inr, subst, arith, rules}
+use Rattle.std.proofs.Common.{◌≡◌, ℕ, zero, suc, ◌==◌, Bool, true, false, not, ◌&&◌, ◌||◌, List, []}
+use Rattle.std.proofs.Common.{◌∷◌, ◌++◌, Option, Some, None, refl, sym, ap, ◌∙◌}
 use Rattle.std.specs.Prelude.{IsTrue, filter, is_some, slice_get, cond, map}
 use Rattle.std.specs.List.{list_any, list_all}
 use Rattle.std.specs.Option.{option_or, option_map}
-use Rattle.std.proofs.lemmas.Grind.{common_steps}
-use Rattle.std.proofs.lemmas.List.Folds.{list_any-append, list_all-append}
+use Rattle.std.proofs.lemmas.List.Folds.{list_any-append}
 use Rattle.std.proofs.lemmas.Bool.{and_parts, and_from, and_right, not-true, eqb-true}
 use Rattle.omos_model.specs.Names.{Name, same_name}
-use Rattle.omos_model.specs.Op.{Op, Restrict, Freeze, Hide}
+use Rattle.omos_model.specs.Op.{Restrict, Freeze, Hide}
 use Rattle.omos_model.specs.NameLists.{is_among, distinct}
 use Rattle.omos_model.specs.Term.{Term, Leaf, Merge, Override, Apply, leaf_numbers}
-use Rattle.omos_model.specs.Definition.{definition, is_defined, written}
-use Rattle.omos_model.specs.State.{state, states, remarked, in_row, in_rows, mark_of, marked_by, bound_to, mark_at}
+use Rattle.omos_model.specs.Definition.{definition, written}
+use Rattle.omos_model.specs.State.{state, states, remarked, in_row, in_rows, mark_of, marked_by}
+use Rattle.omos_model.specs.State.{mark_at}
 use Rattle.omos_model.specs.FirstRefusal.{both_define}
-use Rattle.omos_model.specs.Laws.{SameModule, HideLaw, MergeLaw, OverrideLaw, StatesLaw, RowsLaw, has_leaf, are_apart, NoneShared, restrict_each, shared}
+use Rattle.omos_model.specs.Laws.{HideLaw, MergeLaw, OverrideLaw, StatesLaw, RowsLaw, has_leaf}
+use Rattle.omos_model.specs.Laws.{are_apart, restrict_each, shared}
 use Rattle.omos_model.proofs.Names.{same_name-true, same_name-swap}
 use Rattle.omos_model.specs.declared.refusal.Site.{Site}
 use Rattle.omos_model.specs.declared.mark.Target.{Target}

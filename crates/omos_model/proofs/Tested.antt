@@ -1,13 +1,14 @@
 -- The test on symbol names says what a symbol name is.
-use Rattle.std.proofs.Common.{◌≡◌, ℕ, ◌<◌, ◌≤◌, ◌==◌, Bool, true, false, not, ◌&&◌, List, [], ◌∷◌, length, refl, sym, ap, ◌∙◌, ◌≢◌, arith}
-use Rattle.std.specs.Prelude.{nat_le, nat_lt}
+use Rattle.std.proofs.Common.{ℕ, ◌≤◌, ◌==◌, Bool, not, ◌&&◌, List, length, refl, ◌≢◌, arith}
+use Rattle.std.specs.Prelude.{nat_le}
 use Rattle.std.specs.Bool.{Decides}
 use Rattle.std.specs.List.{list_all, All}
 use Rattle.std.specs.Int.{IsInRange}
-use Rattle.std.proofs.lemmas.Bool.Decides.{Decides-by_and, Decides-and, Decides-or, Decides-not, Decides-like, Decides-eqb, nat_tests}
-use Rattle.omos_base.specs.SymNames.{IsNameByte, IsSymName}
+use Rattle.std.proofs.lemmas.Bool.Decides.{Decides-by_and, Decides-and, Decides-or, Decides-not}
+use Rattle.std.proofs.lemmas.Bool.Decides.{Decides-like, Decides-eqb, nat_tests}
+use Rattle.omos_base.specs.SymNames.{IsNameByte}
 use Rattle.omos_model.specs.Laws.{NameLaw}
-use Rattle.omos_model.specs.Names.{is_name_byte, is_symbol_name}
+use Rattle.omos_model.specs.Names.{is_name_byte}
 
 leb_law : (a b : ℕ) → Decides (nat_le a b) (a ≤ b)
 leb_law a b = (λ h. grind (arith, nat_tests), λ h. grind (arith, nat_tests))

@@ -1,19 +1,18 @@
 -- Every name that is defined is written somewhere, so the conflict of a merge is the least of all.
-use Rattle.std.proofs.Common.{◌≡◌, ℕ, Bool, true, false, ◌&&◌, ◌||◌, List, [], ◌∷◌, ◌++◌, Option, Some, None, refl, sym, ap, ◌∙◌, ◌⊎◌, inl, inr, fold, cond, map, true≢false}
+use Rattle.std.proofs.Common.{◌≡◌, ℕ, Bool, true, false, ◌||◌, List, [], ◌∷◌, Option, Some, None}
+use Rattle.std.proofs.Common.{refl, sym, ◌∙◌, ◌⊎◌, inl, inr, fold, map, true≢false}
 use Rattle.std.specs.Prelude.{is_some}
-use Rattle.std.specs.List.{list_any, find}
-use Rattle.std.specs.Option.{option_or, option_map}
+use Rattle.std.specs.Option.{option_or}
 use Rattle.std.proofs.lemmas.List.Folds.{list_any-append}
 use Rattle.std.proofs.lemmas.Bool.{and_parts, or_left, or_right}
 use Rattle.omos_model.specs.Names.{Name, same_name}
 use Rattle.omos_model.specs.Op.{Op, Rename, Restrict, Freeze, Hide, Show, CopyAs}
-use Rattle.omos_model.specs.NameLists.{is_among, lesser, least, IsLeast}
+use Rattle.omos_model.specs.NameLists.{is_among, lesser}
 use Rattle.omos_model.specs.Term.{Term, Leaf, Merge, Override, Apply}
-use Rattle.omos_model.specs.Definition.{Meaning, definition, defined_by, renamed, exported, target_of, is_defined, written, given_by}
-use Rattle.omos_model.specs.FirstRefusal.{both_define, conflict}
+use Rattle.omos_model.specs.Definition.{Meaning, definition, defined_by, exported, is_defined}
+use Rattle.omos_model.specs.Definition.{written, given_by}
 use Rattle.omos_model.specs.Laws.{ConflictLaw}
 use Rattle.omos_model.specs.declared.fragment.Export.{Export}
-use Rattle.omos_model.specs.declared.mark.Target.{Target}
 use Rattle.omos_model.proofs.Least.{least-IsLeast}
 use Rattle.omos_model.proofs.Names.{same_name-refl, same_name-swap}
 

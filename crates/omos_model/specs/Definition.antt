@@ -1,5 +1,6 @@
 -- What a name is defined as in a module, found by descent at each use.
-use Rattle.std.specs.Prelude.{ℕ, Bool, if◌then◌else◌, List, [], ◌∷◌, ◌++◌, map, Option, Some, None, is_some}
+use Rattle.std.specs.Prelude.{ℕ, Bool, if◌then◌else◌, List, [], ◌∷◌, ◌++◌, map, Option, None}
+use Rattle.std.specs.Prelude.{is_some}
 use Rattle.std.specs.List.{find}
 use Rattle.std.specs.Option.{option_map, option_or}
 use Rattle.omos_model.specs.Names.{Name, same_name}
@@ -22,7 +23,8 @@ target_of leaf (spot.Fixed value) = target.Fixed value
 
 -- the target of a leaf's export of this name
 abbrev pub exported : ℕ → List Export → Meaning
-exported leaf exports n = option_map (λ x. target_of leaf x.spot) (find (λ x. same_name n x.name) exports)
+exported leaf exports n =
+    option_map (λ x. target_of leaf x.spot) (find (λ x. same_name n x.name) exports)
 
 -- b as a was, and a no more; where a and b are the same, a as it was
 abbrev pub renamed : Name → Name → Meaning → Meaning

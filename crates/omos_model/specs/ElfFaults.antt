@@ -1,6 +1,8 @@
 -- The first fault of an object file.
-use Rattle.std.specs.Prelude.{ℕ, ◌+◌, ◌-◌, ◌*◌, ◌/◌, ◌%◌, ◌==◌, nat_lt, nat_le, Bool, true, false, not, ◌&&◌, ◌||◌, if◌then◌else◌, List, [], ◌∷◌, length, take, map, Option, Some, None, filter, is_some}
-use Rattle.std.specs.List.{find, list_any, list_all, sum_by, flat_map}
+use Rattle.std.specs.Prelude.{ℕ, ◌+◌, ◌-◌, ◌*◌, ◌/◌, ◌%◌, ◌==◌, nat_lt, nat_le, Bool, true, false}
+use Rattle.std.specs.Prelude.{not, ◌&&◌, ◌||◌, if◌then◌else◌, List, [], ◌∷◌, length, take, map}
+use Rattle.std.specs.Prelude.{Option, Some, None, filter}
+use Rattle.std.specs.List.{find, list_any, sum_by, flat_map}
 use Rattle.std.specs.Option.{option_map, option_map_or}
 use Rattle.std.specs.Map.{lookup}
 use Rattle.omos_base.specs.Fields.{number_at}
@@ -8,12 +10,17 @@ use Rattle.omos_model.specs.Names.{same_name, is_symbol_name}
 use Rattle.omos_model.specs.FragmentParts.{is_alignment, max_size, max_entries, width}
 use Rattle.omos_model.specs.Numbers.{numbers_from, first_some}
 use Rattle.omos_model.specs.ElfFields.{e_type, e_machine, e_version, e_shoff, e_shentsize, e_shnum}
-use Rattle.omos_model.specs.ElfFields.{sh_type, sh_offset, sh_size, sh_link, sh_info, sh_addralign, sh_entsize}
-use Rattle.omos_model.specs.ElfFields.{has_flag, is_section, sections, symtab_type, symbol_count, symbols}
-use Rattle.omos_model.specs.ElfFields.{st_shndx, st_value, st_size, binding, symbol_type, name_bytes, name_of}
+use Rattle.omos_model.specs.ElfFields.{sh_type, sh_offset, sh_size, sh_link, sh_info, sh_addralign}
+use Rattle.omos_model.specs.ElfFields.{sh_entsize}
+use Rattle.omos_model.specs.ElfFields.{has_flag, is_section, sections, symtab_type, symbol_count}
+use Rattle.omos_model.specs.ElfFields.{symbols}
+use Rattle.omos_model.specs.ElfFields.{st_shndx, st_value, st_size, binding, symbol_type}
+use Rattle.omos_model.specs.ElfFields.{name_bytes, name_of}
 use Rattle.omos_model.specs.ElfFields.{r_offset, r_sym, r_type}
 use Rattle.omos_model.specs.declared.fragment.Kind.{Kind}
-use Rattle.omos_model.specs.declared.fragment.Kind.TheVariants.{Abs64, Pc32, Plt32, GotPcRel, Abs32, Abs32S, Pc64, GotPcRelX, RexGotPcRelX}
+use Rattle.omos_model.specs.declared.fragment.Kind.TheVariants.{Abs64, Pc32, Plt32, GotPcRel, Abs32}
+use Rattle.omos_model.specs.declared.fragment.Kind.TheVariants.{Abs32S, Pc64, GotPcRelX}
+use Rattle.omos_model.specs.declared.fragment.Kind.TheVariants.{RexGotPcRelX}
 use Rattle.omos_model.specs.declared.refusal.ObjectFault.{ObjectFault}
 use Rattle.omos_model.specs.declared.refusal.ObjectFault.TheVariants as fault
 
@@ -75,7 +82,8 @@ is_strtab file i = is_section file i && (sh_type file i == 3) && lies_in_file fi
 
 abbrev pub is_right_symtab : List ℕ → ℕ → Bool
 is_right_symtab file i =
-    (sh_entsize file i == 24) && (sh_size file i % 24 == 0) && nat_le (sh_size file i / 24) max_entries
+    (sh_entsize file i == 24) && (sh_size file i % 24 == 0)
+    && nat_le (sh_size file i / 24) max_entries
     && lies_in_file file i && is_strtab file (sh_link file i)
 
 -- O7 where it fails: there is no symbol table, or one that is right
@@ -123,14 +131,16 @@ has_right_section file k =
 -- within a kept section; a name of other objects' isn't of a section that isn't kept
 abbrev pub has_right_value : List ℕ → ℕ → Bool
 has_right_value file k =
-    (not (is_kept file (st_shndx file k)) || nat_le (st_value file k) (sh_size file (st_shndx file k)))
+    (not (is_kept file (st_shndx file k))
+    || nat_le (st_value file k) (sh_size file (st_shndx file k)))
     && not (has_name file k && is_of_dropped file k)
 
 -- a common symbol's value is its alignment
 abbrev pub has_right_common : List ℕ → ℕ → Bool
 has_right_common file k =
     not (st_shndx file k == common)
-    || ((st_value file k == 0 || is_alignment (st_value file k)) && nat_le (st_size file k) max_size)
+    || ((st_value file k == 0 || is_alignment (st_value file k))
+    && nat_le (st_size file k) max_size)
 
 -- a name of other objects' is a symbol name with a zero byte behind it in the string table
 abbrev pub has_right_name : List ℕ → ℕ → Bool
@@ -142,15 +152,16 @@ has_right_name file k =
 abbrev pub is_wrong_symbol : List ℕ → ℕ → Bool
 is_wrong_symbol file k =
     not (
-      has_right_info file k && has_right_section file k && has_right_value file k
-      && has_right_common file k && has_right_name file k
+    has_right_info file k && has_right_section file k && has_right_value file k
+    && has_right_common file k && has_right_name file k
     )
 
 -- O9: a lower symbol defines the name too
 abbrev pub is_again : List ℕ → ℕ → Bool
 is_again file k =
     is_export file k
-    && list_any (λ j. is_export file j && same_name (name_of file k) (name_of file j)) (numbers_from 1 (k - 1))
+    && list_any (λ j. is_export file j && same_name (name_of file k) (name_of file j))
+    (numbers_from 1 (k - 1))
 
 -- ---- relocations (gABI, "Relocation"; x86-64 psABI, "Relocation Types")
 
@@ -177,14 +188,15 @@ is_right_rela file i =
 abbrev pub is_wrong_rela : List ℕ → ℕ → Bool
 is_wrong_rela file i =
     (sh_type file i == rela)
-    && (not (nat_lt (sh_info file i) (e_shnum file)) || (is_used_rela file i && not (is_right_rela file i)))
+    && (not (nat_lt (sh_info file i) (e_shnum file))
+    || (is_used_rela file i && not (is_right_rela file i)))
 
 -- R_X86_64_64, PC32, PLT32, GOTPCREL, 32, 32S, PC64, GOTPCRELX and REX_GOTPCRELX, by their numbers
 abbrev pub kind_of : ℕ → Option Kind
 kind_of n =
     lookup (λ m. m == n) (
-      (1, Abs64) ∷ (2, Pc32) ∷ (4, Plt32) ∷ (9, GotPcRel) ∷ (10, Abs32) ∷ (11, Abs32S) ∷ (24, Pc64)
-      ∷ (41, GotPcRelX) ∷ (42, RexGotPcRelX) ∷ []
+    (1, Abs64) ∷ (2, Pc32) ∷ (4, Plt32) ∷ (9, GotPcRel) ∷ (10, Abs32) ∷ (11, Abs32S) ∷ (24, Pc64)
+    ∷ (41, GotPcRelX) ∷ (42, RexGotPcRelX) ∷ []
     )
 
 -- the entries, each as its section and its number in it, of the sections whose target is kept
@@ -212,11 +224,16 @@ is_wrong_entry file e =
 
 -- ---- the first
 
--- bytes 0 to 6 say ELF, 64 bits, little-endian, version 1; byte 7 no ABI or that of GNU (gABI, "ELF Identification")
+-- bytes 0 to 6 say ELF, 64 bits, little-endian, version 1, and byte 7 no ABI or GNU's
+-- (gABI, "ELF Identification")
 abbrev pub is_elf : List ℕ → Bool
 is_elf file =
     same_name (take 7 file) (127 ∷ 69 ∷ 76 ∷ 70 ∷ 2 ∷ 1 ∷ 1 ∷ [])
     && ((number_at 1 7 file == 0) || (number_at 1 7 file == 3))
+
+-- ET_REL, EM_X86_64 and EV_CURRENT
+abbrev pub is_relocatable : List ℕ → Bool
+is_relocatable file = (e_type file == 1) && (e_machine file == 62) && (e_version file == 1)
 
 abbrev pub max_sections : ℕ
 max_sections = 4096
@@ -233,16 +250,16 @@ fault_unless fine x = if fine then None else Some x
 unfoldable pub object_fault : List ℕ → Option ObjectFault
 object_fault file =
     first_some (
-      fault_unless (nat_le 64 (length file) && nat_le (length file) 1048576) fault.Length
-      ∷ fault_unless (is_elf file) fault.NotElf
-      ∷ fault_unless ((e_type file == 1) && (e_machine file == 62) && (e_version file == 1)) fault.Kind
-      ∷ fault_unless (has_headers file) fault.Headers
-      ∷ option_map fault.Section (find (is_wrong_section file) (sections file))
-      ∷ option_map fault.Unsupported (find (is_unsupported file) (sections file))
-      ∷ fault_unless (are_right_symtabs file (filter (is_symtab file) (sections file))) fault.Symbols
-      ∷ option_map fault.Symbol (find (is_wrong_symbol file) (symbols file))
-      ∷ option_map (λ k. fault.Twice (name_of file k)) (find (is_again file) (symbols file))
-      ∷ option_map fault.Relas (find (is_wrong_rela file) (sections file))
-      ∷ option_map (λ e. fault.Rela e.0 e.1) (find (is_wrong_entry file) (entries file))
-      ∷ []
+    fault_unless (nat_le 64 (length file) && nat_le (length file) 1048576) fault.Length
+    ∷ fault_unless (is_elf file) fault.NotElf
+    ∷ fault_unless (is_relocatable file) fault.Kind
+    ∷ fault_unless (has_headers file) fault.Headers
+    ∷ option_map fault.Section (find (is_wrong_section file) (sections file))
+    ∷ option_map fault.Unsupported (find (is_unsupported file) (sections file))
+    ∷ fault_unless (are_right_symtabs file (filter (is_symtab file) (sections file))) fault.Symbols
+    ∷ option_map fault.Symbol (find (is_wrong_symbol file) (symbols file))
+    ∷ option_map (λ k. fault.Twice (name_of file k)) (find (is_again file) (symbols file))
+    ∷ option_map fault.Relas (find (is_wrong_rela file) (sections file))
+    ∷ option_map (λ e. fault.Rela e.0 e.1) (find (is_wrong_entry file) (entries file))
+    ∷ []
     )

@@ -1,5 +1,6 @@
 -- The fields of an object file at their offsets, under the names of the System V gABI (chapter 4).
-use Rattle.std.specs.Prelude.{ℕ, ◌+◌, ◌-◌, ◌*◌, ◌/◌, ◌%◌, ◌^◌, ◌==◌, nat_lt, Bool, not, ◌&&◌, if◌then◌else◌, List, [], take, drop, ℤ, filter, unwrap_or}
+use Rattle.std.specs.Prelude.{ℕ, ◌+◌, ◌-◌, ◌*◌, ◌/◌, ◌%◌, ◌^◌, ◌==◌, nat_lt, Bool, not, ◌&&◌}
+use Rattle.std.specs.Prelude.{if◌then◌else◌, List, take, drop, ℤ, unwrap_or}
 use Rattle.std.specs.List.{find, take_while}
 use Rattle.std.specs.Int.{cast_signed, w64}
 use Rattle.omos_base.specs.Fields.{number_at}

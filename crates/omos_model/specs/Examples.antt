@@ -1,19 +1,20 @@
 -- Worked examples.
-use Rattle.std.specs.Prelude.{◌≡◌, ℕ, ◌+◌, ◌-◌, ◌/◌, ◌%◌, ◌==◌, if◌then◌else◌, List, [], ◌∷◌, ◌++◌, length, map, replicate, Option, Some, None, Result, Ok, Err, codes, negsuc, false}
+use Rattle.std.specs.Prelude.{◌≡◌, ℕ, ◌+◌, ◌-◌, ◌/◌, ◌%◌, ◌==◌, if◌then◌else◌, List, [], ◌∷◌, ◌++◌}
+use Rattle.std.specs.Prelude.{length, map, replicate, Option, Some, None, Ok, Err, codes, negsuc}
+use Rattle.std.specs.Prelude.{false}
 use Rattle.std.specs.Map.{lookup}
 use Rattle.omos_model.specs.Names.{Name, same_name}
 use Rattle.omos_model.specs.Numbers.{numbers_from}
-use Rattle.omos_model.specs.Op.{Op, Rename, Restrict, Freeze, Hide, Show, CopyAs}
+use Rattle.omos_model.specs.Op.{Rename, Restrict, Freeze, Hide, Show, CopyAs}
 use Rattle.omos_model.specs.Term.{Term, leaf_numbers}
 use Rattle.omos_model.specs.Tree.{Tree, Path, Merge, More, Override, Apply}
 use Rattle.omos_model.specs.Definition.{definition}
 use Rattle.omos_model.specs.State.{state, landing}
 use Rattle.omos_model.specs.FirstRefusal.{first_refusal}
-use Rattle.omos_model.specs.Expansion.{Source, Object, Blueprint, Visited, expand, expansion_by, first_visit, site_of, max_blueprints}
+use Rattle.omos_model.specs.Expansion.{Source, Object, Blueprint, Visited, expand, expansion_by}
+use Rattle.omos_model.specs.Expansion.{first_visit, site_of, max_blueprints}
 use Rattle.omos_model.specs.declared.fragment.Group.TheVariants.{Code}
 use Rattle.omos_model.specs.declared.fragment.Kind.TheVariants.{Plt32}
-use Rattle.omos_model.specs.declared.fragment.Export.{Export}
-use Rattle.omos_model.specs.declared.fragment.Fixup.{Fixup}
 use Rattle.omos_model.specs.declared.fragment.Spot.TheVariants as spot
 use Rattle.omos_model.specs.declared.fragment.Aim.TheVariants as aim
 use Rattle.omos_model.specs.declared.mark.Landing.{Landing}
@@ -32,13 +33,20 @@ use Rattle.omos_model.specs.declared.visit.Visit.{Visit}
 abbrev object : List (ℕ × Name) → List (ℕ × Name) → Source
 object defs calls =
     Object (
-      record {
-        pieces = record { group = Code; align = 16; size = 16; bytes = replicate 16 0 } ∷ [];
-        exports = map (λ d. record { name = d.1; spot = spot.Inside 0 d.0 }) defs;
-        fixups = map (
-          λ c. record { piece = 0; offset = c.0; kind = Plt32; addend = negsuc 3; aim = aim.Name c.1 false }
-        ) calls;
-      }
+    record {
+      pieces = record { group = Code; align = 16; size = 16; bytes = replicate 16 0 } ∷ [];
+      exports = map (λ d. record { name = d.1; spot = spot.Inside 0 d.0 }) defs;
+      fixups = map (
+          λ c.
+          record {
+            piece = 0;
+            offset = c.0;
+            kind = Plt32;
+            addend = negsuc 3;
+            aim = aim.Name c.1 false;
+          }
+          ) calls;
+    }
     )
 
 abbrev malloc : Name
@@ -134,21 +142,26 @@ defines x n = definition_in n (expanded x)
 abbrev wrapped : Tree
 wrapped =
     Apply (Hide old) (
-      Merge (Apply (Restrict malloc) (Apply (CopyAs malloc old) (Path lib))) (Path trace)
+    Merge (Apply (Restrict malloc) (Apply (CopyAs malloc old) (Path lib))) (Path trace)
     )
 
 pub record OperatorExamples : Type 0 where
   -- of the two names that both define the lesser is refused, and the operands' order doesn't count
-  pub conflict : refusal (Merge (Path ba) (Path ab)) ≡ Some (refused.Conflict (site_of made 0) (codes "a"))
-  pub swapped : refusal (Merge (Path ab) (Path ba)) ≡ Some (refused.Conflict (site_of made 0) (codes "a"))
+  pub conflict : refusal (Merge (Path ba) (Path ab))
+      ≡ Some (refused.Conflict (site_of made 0) (codes "a"))
+  pub swapped : refusal (Merge (Path ab) (Path ba))
+      ≡ Some (refused.Conflict (site_of made 0) (codes "a"))
   -- a merge of three is one node, also where it is the third that conflicts
   pub third : refusal (Apply (Freeze grab) (More (Merge (Path lib) (Path user)) (Path new)))
       ≡ Some (refused.Conflict (site_of made 1) malloc)
-  pub nodes_after : refusal (Override (More (Merge (Path lib) (Path user)) (Path ab)) (Apply (Hide zip) (Path new)))
+  pub nodes_after : refusal (
+    Override (More (Merge (Path lib) (Path user)) (Path ab)) (Apply (Hide zip) (Path new))
+  )
       ≡ Some (refused.NoDefinition (site_of made 5) zip)
   -- the call follows the definition that wins, unless it was bound before
   pub override : lands (Override (Path lib) (Path new)) 0 ≡ Some (On (Inside 1 0 0))
-  pub frozen : lands (Override (Apply (Freeze malloc) (Path lib)) (Path new)) 0 ≡ Some (On (Inside 0 0 0))
+  pub frozen : lands (Override (Apply (Freeze malloc) (Path lib)) (Path new)) 0
+      ≡ Some (On (Inside 0 0 0))
   pub wrapped_call : lands wrapped 0 ≡ Some (On (Inside 1 0 0))
   pub wrapper_call : lands wrapped 1 ≡ Some (On (Inside 0 0 0))
   pub wrapper_hides : defines wrapped old ≡ None
@@ -156,16 +169,21 @@ pub record OperatorExamples : Type 0 where
   pub renamed : lands (Apply (Rename puts printed) (Path user)) 0 ≡ Some (On (Inside 0 0 8))
   pub renamed_open : mark (Apply (Rename puts printed) (Path user)) 0 ≡ Some (Open printed)
   pub renamed_away : lands (Apply (Rename puts zip) (Path user)) 0 ≡ Some (Nothing zip)
-  pub taken : refusal (Apply (Rename grab malloc) (Path lib)) ≡ Some (refused.Taken (site_of made 0) malloc)
-  pub no_name : refusal (Apply (Rename zip old) (Path lib)) ≡ Some (refused.NoName (site_of made 0) zip)
+  pub taken : refusal (Apply (Rename grab malloc) (Path lib))
+      ≡ Some (refused.Taken (site_of made 0) malloc)
+  pub no_name : refusal (Apply (Rename zip old) (Path lib))
+      ≡ Some (refused.NoName (site_of made 0) zip)
   pub same : refusal (Apply (Rename malloc malloc) (Path lib)) ≡ None
   pub same_defines : defines (Apply (Rename malloc malloc) (Path lib)) malloc ≡ Some (Inside 0 0 0)
   -- a definition under a name that is open here already
   pub copied : refusal (Apply (CopyAs printed puts) (Path user)) ≡ None
-  pub copied_itself : refusal (Apply (CopyAs malloc malloc) (Path lib)) ≡ Some (refused.Taken (site_of made 0) malloc)
-  pub not_defined : refusal (Apply (Hide zip) (Path lib)) ≡ Some (refused.NoDefinition (site_of made 0) zip)
+  pub copied_itself : refusal (Apply (CopyAs malloc malloc) (Path lib))
+      ≡ Some (refused.Taken (site_of made 0) malloc)
+  pub not_defined : refusal (Apply (Hide zip) (Path lib))
+      ≡ Some (refused.NoDefinition (site_of made 0) zip)
   -- show binds what it hides, and refuses the first name, as written, that isn't defined
-  pub shown : lands (Merge (Apply (Show (grab ∷ [])) (Path lib)) (Path new)) 0 ≡ Some (On (Inside 0 0 0))
+  pub shown : lands (Merge (Apply (Show (grab ∷ [])) (Path lib)) (Path new)) 0
+      ≡ Some (On (Inside 0 0 0))
   pub shown_open : mark (Apply (Show (malloc ∷ [])) (Path lib)) 0 ≡ Some (Open malloc)
   pub not_shown : refusal (Apply (Show (grab ∷ zip ∷ old ∷ [])) (Path lib))
       ≡ Some (refused.NoDefinition (site_of made 0) zip)
@@ -178,23 +196,25 @@ pub record OperatorExamples : Type 0 where
 
 -- ---- expansion
 
--- the k-th path of a chain, /caa and so on
+-- the k-th path of a chain, from /cab on
 abbrev link : ℕ → Name
 link k = codes "/c" ++ (97 + k / 16) ∷ (97 + k % 16) ∷ []
 
 -- this many blueprints, each of the next one's path, and the last of an object's
 abbrev chain : ℕ → List (Name × Source)
 chain count =
-    map (λ k. (link k, Blueprint (Path (if k == count then lib else link (k + 1))))) (numbers_from 1 count)
+    map (λ k. (link k, Blueprint (Path (if k == count then lib else link (k + 1)))))
+    (numbers_from 1 count)
 
--- /daa has two leaves, and each further one twice as many as the one before
+-- /da has two leaves, and each further one twice as many as the one before
 abbrev twice : ℕ → Name
 twice k = codes "/d" ++ (97 + k) ∷ []
 
 abbrev doubled : List (Name × Source)
 doubled =
     (twice 0, Blueprint (Override (Path lib) (Path lib)))
-    ∷ map (λ k. (twice k, Blueprint (Override (Path (twice (k - 1))) (Path (twice (k - 1)))))) (numbers_from 1 8)
+    ∷ map (λ k. (twice k, Blueprint (Override (Path (twice (k - 1))) (Path (twice (k - 1))))))
+    (numbers_from 1 8)
 
 abbrev leaf_count : Visited Term → ℕ
 leaf_count (Ok r) = length (leaf_numbers r.0)
@@ -204,9 +224,13 @@ abbrev error : Visited Term → Option Refusal
 error (Ok r) = None
 error (Err x) = Some x
 
+abbrev frozen : Tree
+frozen = Apply (Freeze malloc) (Path lib)
+
 -- a request for a path after these counts
 abbrev from_counts : Visit → Name → Visited Term
-from_counts v p = expand (with ((made, Blueprint (Apply (Freeze malloc) (Path lib))) ∷ [])) max_blueprints [] false p p v
+from_counts v p =
+    expand (with ((made, Blueprint frozen) ∷ [])) max_blueprints [] false p p v
 
 abbrev nodes : ℕ → Visit
 nodes n = record first_visit { nodes = n }
@@ -241,11 +265,14 @@ pub record ExpansionExamples : Type 0 where
   pub chain_of_33 : error (expansion_by (with (chain 33)) (link 1))
       ≡ Some (refused.TooDeep (site_of (link 32) 0) (link 33))
   -- a path that is too deep in one place isn't in another
-  pub deep_first : error (expansion_by (with (chain 32 ++ (x, Blueprint (Override (Path (link 2)) (Path (link 1)))) ∷ [])) x)
+  pub deep_first : error (
+    expansion_by (with (chain 32 ++ (x, Blueprint (Override (Path (link 2)) (Path (link 1)))) ∷ [])) x
+  )
       ≡ Some (refused.TooDeep (site_of (link 31) 0) (link 32))
   -- 256 leaves, and 257
   pub leaves_256 : leaf_count (expansion_by (with doubled) (twice 7)) ≡ 256
-  pub leaves_512 : error (expansion_by (with doubled) (twice 8)) ≡ Some (refused.TooLarge (site_of (twice 0) 1))
+  pub leaves_512 : error (expansion_by (with doubled) (twice 8))
+      ≡ Some (refused.TooLarge (site_of (twice 0) 1))
   pub leaf_256 : leaf_count (from_counts (leaves 255) made) ≡ 1
   pub leaf_257 : error (from_counts (leaves 256) made) ≡ Some (refused.TooLarge (site_of made 1))
   -- the 4,096th node is the object's path; then the 4,097th, and the freeze itself
@@ -254,6 +281,8 @@ pub record ExpansionExamples : Type 0 where
   pub node_4098 : error (from_counts (nodes 4096) made) ≡ Some (refused.TooLarge (site_of made 0))
   -- two exports and one fixup
   pub exports_524288 : error (from_counts (exports 524286) made) ≡ None
-  pub exports_524289 : error (from_counts (exports 524287) made) ≡ Some (refused.TooLarge (site_of made 1))
+  pub exports_524289 : error (from_counts (exports 524287) made)
+      ≡ Some (refused.TooLarge (site_of made 1))
   pub fixups_524288 : error (from_counts (fixups 524287) lib) ≡ None
-  pub fixups_524289 : error (from_counts (fixups 524288) lib) ≡ Some (refused.TooLarge (site_of lib 0))
+  pub fixups_524289 : error (from_counts (fixups 524288) lib)
+      ≡ Some (refused.TooLarge (site_of lib 0))

@@ -1,5 +1,7 @@
 -- Expansion: the term that a path stands for, and the paths that are read on the way.
-use Rattle.std.specs.Prelude.{ℕ, zero, suc, ◌+◌, nat_lt, nat_le, ◌&&◌, Bool, true, false, if◌then◌else◌, List, [], ◌∷◌, ◌++◌, length, Option, Some, None, Result, Ok, Err}
+use Rattle.std.specs.Prelude.{ℕ, zero, suc, ◌+◌, nat_lt, nat_le, ◌&&◌, Bool, true, false}
+use Rattle.std.specs.Prelude.{if◌then◌else◌, List, [], ◌∷◌, ◌++◌, length, Option, Some, None}
+use Rattle.std.specs.Prelude.{Result, Ok, Err}
 use Rattle.std.specs.Option.{option_map}
 use Rattle.omos_model.specs.Names.{Name}
 use Rattle.omos_model.specs.FragmentParts.{FragmentParts}
@@ -65,7 +67,8 @@ here at v = site_of at v.node
 -- a node of the blueprint `at` begins and takes its number; the 4,097th is refused
 abbrev pub begin : Name → Visitor Site
 begin at v =
-    if nat_lt v.nodes max_nodes then Ok (here at v, record v { node = v.node + 1; nodes = v.nodes + 1 })
+    if nat_lt v.nodes max_nodes
+    then Ok (here at v, record v { node = v.node + 1; nodes = v.nodes + 1 })
     else Err (TooLarge (here at v))
 
 -- the next leaf, unless it is the 257th or brings a sum above its limit
@@ -117,7 +120,8 @@ nested x v = and_then (x (record v { node = 0 })) (λ t w. Ok (t, record w { nod
 -- a path by what stands under it: nothing, an object, or a blueprint, which `blueprint` visits
 abbrev pub entered : (Tree → Visitor Term) → Bool → Name → Name → Option Source → Visitor Term
 entered blueprint counts at p None v = Err (NoEntry (here at v) p)
-entered blueprint counts at p (Some (Object f)) v = and_then (begin_path counts at (add_read p v)) (leaf f)
+entered blueprint counts at p (Some (Object f)) v =
+    and_then (begin_path counts at (add_read p v)) (leaf f)
 entered blueprint counts at p (Some (Blueprint x)) v = blueprint x v
 
 -- a blueprint that isn't open yet
@@ -130,12 +134,12 @@ expand ns zero above counts at p =
     entered (λ x. unless_cycle above at p (λ v. Err (TooDeep (here at v) p))) counts at p (ns p)
 expand ns (suc room) above counts at p =
     entered (
-      λ x.
-          unless_cycle above at p (
-            λ v.
-                and_then (begin_path counts at (add_read p v))
-                (λ s. nested (visit p (expand ns room (above ++ p ∷ []) true p) x))
-          )
+    λ x.
+    unless_cycle above at p (
+    λ v.
+    and_then (begin_path counts at (add_read p v))
+    (λ s. nested (visit p (expand ns room (above ++ p ∷ []) true p) x))
+    )
     ) counts at p (ns p)
 
 abbrev pub first_visit : Visit

@@ -1,5 +1,5 @@
 -- The first operator of a module that is refused, in post-order, left to right.
-use Rattle.std.specs.Prelude.{Bool, not, ◌&&◌, ◌||◌, if◌then◌else◌, Option, Some, None, is_some}
+use Rattle.std.specs.Prelude.{Bool, not, ◌&&◌, if◌then◌else◌, Option, Some, None, is_some}
 use Rattle.std.specs.List.{find}
 use Rattle.std.specs.Option.{option_or, option_map}
 use Rattle.omos_model.specs.Names.{Name, same_name}
@@ -10,7 +10,8 @@ use Rattle.omos_model.specs.Definition.{Meaning, definition, is_defined, written
 use Rattle.omos_model.specs.State.{is_open}
 use Rattle.omos_model.specs.declared.refusal.Site.{Site}
 use Rattle.omos_model.specs.declared.refusal.Refusal.{Refusal}
-use Rattle.omos_model.specs.declared.refusal.Refusal.TheVariants.{Conflict, NoName, NoDefinition, Taken}
+use Rattle.omos_model.specs.declared.refusal.Refusal.TheVariants.{Conflict, NoName, NoDefinition}
+use Rattle.omos_model.specs.declared.refusal.Refusal.TheVariants.{Taken}
 
 abbrev pub both_define : Term → Term → Name → Bool
 both_define l r n = is_defined l n && is_defined r n
@@ -40,6 +41,8 @@ refused_by s (CopyAs a b) u is_open_in =
 abbrev pub first_refusal : Term → Option Refusal
 first_refusal (Leaf s leaf f) = None
 first_refusal (Merge s l r) =
-    option_or (first_refusal l) (option_or (first_refusal r) (option_map (Conflict s) (conflict l r)))
+    option_or (first_refusal l)
+    (option_or (first_refusal r) (option_map (Conflict s) (conflict l r)))
 first_refusal (Override s l r) = option_or (first_refusal l) (first_refusal r)
-first_refusal (Apply s op u) = option_or (first_refusal u) (refused_by s op (definition u) (is_open u))
+first_refusal (Apply s op u) =
+    option_or (first_refusal u) (refused_by s op (definition u) (is_open u))

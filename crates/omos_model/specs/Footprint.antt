@@ -1,5 +1,5 @@
 -- What a path's term depends on.
-use Rattle.std.specs.Prelude.{List, Option, Some, None, Result, Ok, Err}
+use Rattle.std.specs.Prelude.{List, Option, Some, None, Ok, Err}
 use Rattle.std.specs.List.{filter_map}
 use Rattle.omos_model.specs.Names.{Name}
 use Rattle.omos_model.specs.Namespace.{Space, look_up}
@@ -11,6 +11,6 @@ abbrev pub footprint_of : Space → Visited Term → Option (List Stamped)
 footprint_of ns (Ok r) = Some (filter_map (look_up ns) r.1.read)
 footprint_of ns (Err x) = None
 
--- the paths that expansion reads, each once in order of first reading, with their stamps and entries
+-- the paths that expansion reads, in order of first reading, with their stamps and entries
 abbrev pub footprint : Space → Name → Option (List Stamped)
 footprint ns p = footprint_of ns (expansion ns p)

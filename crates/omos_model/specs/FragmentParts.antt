@@ -1,5 +1,6 @@
 -- A fragment as a value, and when three lists are one.
-use Rattle.std.specs.Prelude.{ℕ, ◌+◌, ◌==◌, nat_le, Bool, true, false, not, ◌&&◌, if◌then◌else◌, List, [], ◌∷◌, length, IsTrue}
+use Rattle.std.specs.Prelude.{ℕ, ◌+◌, ◌==◌, nat_le, Bool, true, false, not, ◌&&◌, if◌then◌else◌}
+use Rattle.std.specs.Prelude.{List, [], ◌∷◌, length, IsTrue}
 use Rattle.std.specs.List.{list_all, list_any, slice_get}
 use Rattle.std.specs.Option.{option_map_or}
 use Rattle.omos_model.specs.Names.{Name, same_name}
@@ -39,7 +40,8 @@ max_entries = 65535
 -- 1, 2, 4 .. 4,096
 abbrev pub is_alignment : ℕ → Bool
 is_alignment a =
-    list_any (λ b. b == a) (1 ∷ 2 ∷ 4 ∷ 8 ∷ 16 ∷ 32 ∷ 64 ∷ 128 ∷ 256 ∷ 512 ∷ 1024 ∷ 2048 ∷ 4096 ∷ [])
+    list_any (λ b. b == a)
+    (1 ∷ 2 ∷ 4 ∷ 8 ∷ 16 ∷ 32 ∷ 64 ∷ 128 ∷ 256 ∷ 512 ∷ 1024 ∷ 2048 ∷ 4096 ∷ [])
 
 abbrev pub is_zeros : Group → Bool
 is_zeros Zeros = true
@@ -53,7 +55,8 @@ is_piece p =
 
 -- a spot inside a piece is a byte of it, or the place behind its last byte
 abbrev pub is_spot : List Piece → Spot → Bool
-is_spot ps (Inside piece offset) = option_map_or (λ p. nat_le offset p.size) (slice_get ps piece) false
+is_spot ps (Inside piece offset) =
+    option_map_or (λ p. nat_le offset p.size) (slice_get ps piece) false
 is_spot ps (Fixed value) = true
 
 -- the bytes of a field (x86-64 psABI, "Relocation Types")
@@ -65,7 +68,8 @@ width _ = 4
 -- a field of this many bytes lies in a piece that has bytes
 abbrev pub is_field : List Piece → ℕ → ℕ → ℕ → Bool
 is_field ps piece offset bytes =
-    option_map_or (λ p. not (is_zeros p.group) && nat_le (offset + bytes) p.size) (slice_get ps piece) false
+    option_map_or (λ p. not (is_zeros p.group) && nat_le (offset + bytes) p.size)
+    (slice_get ps piece) false
 
 abbrev pub is_aim : List Piece → Aim → Bool
 is_aim ps (aim.At spot) = is_spot ps spot

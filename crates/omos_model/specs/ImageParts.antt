@@ -1,5 +1,6 @@
 -- A blueprint as a value, and when it is one that a text can say.
-use Rattle.std.specs.Prelude.{ℕ, ◌+◌, ◌-◌, ◌%◌, ◌^◌, ◌==◌, nat_le, nat_lt, Bool, true, ◌&&◌, List, length, fold, max, IsTrue}
+use Rattle.std.specs.Prelude.{ℕ, ◌+◌, ◌-◌, ◌%◌, ◌^◌, ◌==◌, nat_le, nat_lt, Bool, true, ◌&&◌, length}
+use Rattle.std.specs.Prelude.{fold, max, IsTrue}
 use Rattle.std.specs.List.{list_all}
 use Rattle.omos_model.specs.declared.entry.Start.{Start}
 use Rattle.omos_model.specs.declared.expr.Expr.{Expr, fold-Expr}

@@ -1,20 +1,20 @@
 -- Laws of the definitions.
-use Rattle.std.specs.Prelude.{◌≡◌, ◌↔◌, ℕ, ◌==◌, Bool, false, not, ◌&&◌, List, [], ◌∷◌, filter, map, reverse, take, Ok, IsTrue}
+use Rattle.std.specs.Prelude.{◌≡◌, ◌↔◌, ℕ, ◌==◌, Bool, false, not, List, [], ◌∷◌, filter, map}
+use Rattle.std.specs.Prelude.{reverse, take, Ok, IsTrue}
 use Rattle.std.specs.List.{list_all, list_any, find}
 use Rattle.std.specs.List.Sorted.{IsStrictlySortedBy}
 use Rattle.omos_base.specs.SymNames.{IsSymName}
 use Rattle.omos_model.specs.Names.{Name, same_name, name_cmp, is_symbol_name}
 use Rattle.omos_model.specs.NameLists.{distinct, IsLeast}
 use Rattle.omos_model.specs.Numbers.{numbers_from}
-use Rattle.omos_model.specs.Op.{Op, Restrict, Freeze, Hide}
+use Rattle.omos_model.specs.Op.{Restrict, Freeze, Hide}
 use Rattle.omos_model.specs.Term.{Term, Merge, Override, Apply, leaf_numbers}
-use Rattle.omos_model.specs.Definition.{definition, is_defined, written}
+use Rattle.omos_model.specs.Definition.{definition, written}
 use Rattle.omos_model.specs.State.{state, states, in_rows}
 use Rattle.omos_model.specs.FirstRefusal.{both_define, conflict}
 use Rattle.omos_model.specs.Namespace.{Space, look_up, stamped_from, namespace_at}
 use Rattle.omos_model.specs.Expansion.{expansion}
 use Rattle.omos_model.specs.declared.entry.Entry.{Entry}
-use Rattle.omos_model.specs.declared.entry.Stamped.{Stamped}
 use Rattle.omos_model.specs.declared.refusal.Site.{Site}
 use Rattle.omos_model.specs.declared.visit.Visit.{Visit}
 

@@ -1,5 +1,6 @@
 -- Lists of names.
-use Rattle.std.specs.Prelude.{◌≡◌, Bool, true, false, ◌&&◌, if◌then◌else◌, List, [], ◌∷◌, fold, Option, Some, None}
+use Rattle.std.specs.Prelude.{◌≡◌, Bool, true, false, ◌&&◌, if◌then◌else◌, List, [], ◌∷◌, fold}
+use Rattle.std.specs.Prelude.{Option, Some, None}
 use Rattle.std.specs.List.{list_any}
 use Rattle.std.specs.Ordering.{is_lt, is_gt}
 use Rattle.omos_model.specs.Names.{Name, same_name, name_cmp}
@@ -24,4 +25,5 @@ least test names = fold (lesser test) None names
 -- the least of all names that pass: it passes, and none that passes is below it
 abbrev pub IsLeast : (Name → Bool) → Option Name → Type 0
 IsLeast test None = (n : Name) → test n ≡ false
-IsLeast test (Some m) = (test m ≡ true) × ((n : Name) → test n ≡ true → is_gt (name_cmp m n) ≡ false)
+IsLeast test (Some m) =
+    (test m ≡ true) × ((n : Name) → test n ≡ true → is_gt (name_cmp m n) ≡ false)

@@ -1,5 +1,5 @@
 -- Names of symbols and paths as lists of bytes, and tests on them.
-use Rattle.std.specs.Prelude.{ℕ, ◌==◌, nat_lt, nat_le, Bool, not, ◌&&◌, ◌||◌, List, length}
+use Rattle.std.specs.Prelude.{ℕ, ◌==◌, nat_le, Bool, not, ◌&&◌, ◌||◌, List, length}
 use Rattle.std.specs.List.{list_all}
 use Rattle.std.specs.Ordering.{nat_cmp}
 use Rattle.std.specs.declared.cmp.Ordering.{Ordering}
@@ -15,7 +15,7 @@ name_cmp = slice_cmp nat_cmp
 abbrev pub same_name : Name → Name → Bool
 same_name = pointwise (λ a b. a == b)
 
--- a byte that a symbol name may have: 0x21 to 0x7E or 0x80 to 0xFF, and none of `"`, `(`, `)` and `;`
+-- a byte of a symbol name: 0x21 to 0x7E or 0x80 to 0xFF, and none of `"`, `(`, `)` and `;`
 abbrev pub is_name_byte : ℕ → Bool
 is_name_byte b =
     ((nat_le 33 b && nat_le b 126) || (nat_le 128 b && nat_le b 255))

@@ -23,7 +23,8 @@ with_entry (x ∷ xs) s =
 -- the publishes, each stamped with the number of the version that it makes
 abbrev pub stamped_from : ℕ → List (Name × Entry) → List Stamped
 stamped_from n [] = []
-stamped_from n (put ∷ puts) = record { path = put.0; stamp = n; entry = put.1 } ∷ stamped_from (n + 1) puts
+stamped_from n (put ∷ puts) =
+    record { path = put.0; stamp = n; entry = put.1 } ∷ stamped_from (n + 1) puts
 
 -- version 0 is empty, and each publish makes the next
 abbrev pub version_of : List (Name × Entry) → ℕ

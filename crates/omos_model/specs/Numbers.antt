@@ -1,5 +1,5 @@
 -- Runs of numbers, and the first of several answers.
-use Rattle.std.specs.Prelude.{ℕ, zero, suc, ◌+◌, List, [], ◌∷◌, Option, Some, None}
+use Rattle.std.specs.Prelude.{ℕ, zero, suc, ◌+◌, List, [], ◌∷◌, Option, None}
 use Rattle.std.specs.Option.{option_or}
 
 -- this many numbers, from one on

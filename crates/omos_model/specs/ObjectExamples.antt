@@ -1,5 +1,6 @@
 -- A worked example of an object file, and of each of its faults.
-use Rattle.std.specs.Prelude.{◌≡◌, ℕ, ◌+◌, ◌*◌, ◌-◌, ◌^◌, Bool, true, false, List, [], ◌∷◌, ◌++◌, take, replicate, slice_set, Option, Some, None, Result, Ok, Err, codes, negsuc}
+use Rattle.std.specs.Prelude.{◌≡◌, ℕ, ◌+◌, ◌*◌, ◌-◌, ◌^◌, true, false, List, [], ◌∷◌, ◌++◌, take}
+use Rattle.std.specs.Prelude.{replicate, slice_set, Some, Ok, codes, negsuc}
 use Rattle.omos_base.specs.Endian.{little_bytes}
 use Rattle.omos_model.specs.Names.{Name}
 use Rattle.omos_model.specs.FragmentParts.{FragmentParts}
@@ -23,18 +24,21 @@ code = 232 ∷ 0 ∷ 0 ∷ 0 ∷ 0 ∷ 195 ∷ 144 ∷ 144 ∷ 195 ∷ replicate
 -- type, flags, offset, size, link, info, alignment and entry size
 abbrev section : ℕ → ℕ → ℕ → ℕ → ℕ → ℕ → ℕ → ℕ → List ℕ
 section type flags offset size link info align entry =
-    replicate 4 0 ++ little_bytes 4 type ++ little_bytes 8 flags ++ replicate 8 0 ++ little_bytes 8 offset
-    ++ little_bytes 8 size ++ little_bytes 4 link ++ little_bytes 4 info ++ little_bytes 8 align ++ little_bytes 8 entry
+    replicate 4 0 ++ little_bytes 4 type ++ little_bytes 8 flags ++ replicate 8 0
+    ++ little_bytes 8 offset ++ little_bytes 8 size ++ little_bytes 4 link ++ little_bytes 4 info
+    ++ little_bytes 8 align ++ little_bytes 8 entry
 
 -- name, binding and type, section and value
 abbrev symbol : ℕ → ℕ → ℕ → ℕ → List ℕ
 symbol name info index value =
-    little_bytes 4 name ++ info ∷ 0 ∷ [] ++ little_bytes 2 index ++ little_bytes 8 value ++ replicate 8 0
+    little_bytes 4 name ++ info ∷ 0 ∷ [] ++ little_bytes 2 index ++ little_bytes 8 value
+    ++ replicate 8 0
 
 abbrev header : List ℕ
 header =
-    127 ∷ 69 ∷ 76 ∷ 70 ∷ 2 ∷ 1 ∷ 1 ∷ replicate 9 0 ++ little_bytes 2 1 ++ little_bytes 2 62 ++ little_bytes 4 1
-    ++ replicate 16 0 ++ little_bytes 8 192 ++ replicate 4 0 ++ little_bytes 2 64 ++ replicate 4 0
+    127 ∷ 69 ∷ 76 ∷ 70 ∷ 2 ∷ 1 ∷ 1 ∷ replicate 9 0
+    ++ little_bytes 2 1 ++ little_bytes 2 62 ++ little_bytes 4 1 ++ replicate 16 0
+    ++ little_bytes 8 192 ++ replicate 4 0 ++ little_bytes 2 64 ++ replicate 4 0
     ++ little_bytes 2 64 ++ little_bytes 2 5 ++ replicate 2 0
 
 -- header, code at 64, relocations at 80, symbols at 104, strings at 176, section headers at 192
@@ -60,7 +64,7 @@ text_piece = record { group = Code; align = 16; size = 16; bytes = code }
 abbrev print_export : Export
 print_export = record { name = codes "print"; spot = Inside 0 8 }
 
--- the fragment of the object, with these pieces and exports beside its own, and a call that aims at this
+-- the object's fragment, with more pieces and exports, and a call that aims at this
 abbrev fragment : List Piece → List Export → Aim → FragmentParts
 fragment pieces exports target =
     record {
@@ -76,11 +80,12 @@ pub record ObjectExamples : Type 0 where
   pub whole : fragment_of object ≡ Ok (fragment [] [] (aim.Name puts false))
   -- `puts` as a weak symbol, as a LOCAL one of section 1, and as a common one without bytes
   pub weak : fragment_of (with_byte 156 32) ≡ Ok (fragment [] [] (aim.Name puts true))
-  pub local : fragment_of (slice_set (with_byte 156 0) 158 1) ≡ Ok (fragment [] [] (aim.At (Inside 0 0)))
+  pub local : fragment_of (slice_set (with_byte 156 0) 158 1)
+      ≡ Ok (fragment [] [] (aim.At (Inside 0 0)))
   pub common : fragment_of (slice_set (with_byte 158 242) 159 255)
       ≡ Ok (
-        fragment (record { group = Zeros; align = 1; size = 0; bytes = [] } ∷ [])
-        (record { name = puts; spot = Inside 1 0 } ∷ []) (aim.Name puts false)
+      fragment (record { group = Zeros; align = 1; size = 0; bytes = [] } ∷ [])
+      (record { name = puts; spot = Inside 1 0 } ∷ []) (aim.Name puts false)
       )
   -- a relocation of type NONE is no fixup
   pub none : fragment_of (with_byte 88 0)
@@ -99,7 +104,7 @@ pub record ObjectExamples : Type 0 where
   pub value : object_fault (with_byte 136 17) ≡ Some (fault.Symbol 1)
   pub unended : object_fault (with_byte 187 33) ≡ Some (fault.Symbol 2)
   pub twice : object_fault (slice_set (with_byte 152 1) 158 1) ≡ Some (fault.Twice (codes "print"))
-  -- a target that isn't there; an unknown type; a symbol that isn't there; a field behind the section
+  -- no target; an unknown type; no symbol; a field behind the section
   pub relas : object_fault (with_byte 364 5) ≡ Some (fault.Relas 2)
   pub rela : object_fault (with_byte 88 3) ≡ Some (fault.Rela 2 0)
   pub no_symbol : object_fault (with_byte 92 3) ≡ Some (fault.Rela 2 0)

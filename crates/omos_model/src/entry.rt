@@ -46,7 +46,12 @@ impl Image {
         requires { IsImage (image_of start lo hi body) }
         ensures { result ≡ image_of start lo hi body }
     {
-        Image { start, lo, hi, body }
+        Image {
+            start,
+            lo,
+            hi,
+            body,
+        }
     }
 
     /// Where a program of it starts.

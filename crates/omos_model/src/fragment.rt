@@ -3,7 +3,8 @@
 ghost use Rattle.std.specs.Prelude.{◌≡◌, false, IfOk};
 ghost use Rattle.std.specs.List.{list_all};
 ghost use Rattle.omos_base.specs.Fault.{MatchFault};
-ghost use Rattle.omos_model.specs.FragmentParts.{parts_of, is_fragment, IsFragment, is_in_bounds, are_distinct};
+ghost use Rattle.omos_model.specs.FragmentParts.{parts_of, is_fragment, IsFragment, is_in_bounds};
+ghost use Rattle.omos_model.specs.FragmentParts.{are_distinct};
 ghost use Rattle.omos_model.specs.FragmentParts.{is_piece, is_spot, is_fixup, is_zeros, width};
 
 use omos_base::{Bytes, Fault, NoMemory, Row, SymName};
@@ -120,10 +121,8 @@ impl Fragment {
         exports: Row<Export>,
         fixups: Row<Fixup>,
     ) -> Result<Fragment, Fault<FragmentFault>>
-        ensures {
-            let parts = parts_of pieces exports fixups in
-            MatchFault result (λ f. (f ≡ parts) × IsFragment f) (λ _. is_fragment parts ≡ false)
-        }
+        ensures { let parts = parts_of pieces exports fixups in
+            MatchFault result (λ f. (f ≡ parts) × IsFragment f) (λ _. is_fragment parts ≡ false) }
     {
         if !is_in_bounds(pieces.as_slice(), exports.as_slice(), fixups.as_slice()) {
             return Err(Fault::Refused(FragmentFault::Shape));
@@ -163,9 +162,7 @@ impl Fragment {
     }
 }
 
-const ALIGNMENTS: [u32; 13] = [
-    1, 2, 4, 8, 16, 32, 64, 128, 256, 512, 1024, 2048, 4096,
-];
+const ALIGNMENTS: [u32; 13] = [1, 2, 4, 8, 16, 32, 64, 128, 256, 512, 1024, 2048, 4096];
 
 fn is_zeros(group: Group) -> bool
     ensures { result ≡ is_zeros group }

@@ -1,6 +1,7 @@
 //! Laws of the definitions, each the contract of a function that does nothing.
 
-ghost use Rattle.omos_model.specs.Laws.{HideLaw, MergeLaw, OverrideLaw, StatesLaw, RowsLaw, ConflictLaw};
+ghost use Rattle.omos_model.specs.Laws.{HideLaw, MergeLaw, OverrideLaw, StatesLaw, RowsLaw};
+ghost use Rattle.omos_model.specs.Laws.{ConflictLaw};
 ghost use Rattle.omos_model.specs.Laws.{LeavesLaw, LastPutLaw, OrderLaw, NameLaw};
 
 /// To hide a name is to freeze it and then to restrict it.

@@ -78,41 +78,79 @@ pub enum BpFault {
 pub enum Refusal {
     /// L1
     #[error("nothing is published under the path")]
-    NoEntry { site: Site, path: PathName },
+    NoEntry {
+        site: Site,
+        path: PathName,
+    },
     /// L2
     #[error("the blueprint leads back to itself")]
-    Cycle { site: Site, path: PathName },
+    Cycle {
+        site: Site,
+        path: PathName,
+    },
     /// L3
     #[error("too many blueprints stand inside one another")]
-    TooDeep { site: Site, path: PathName },
+    TooDeep {
+        site: Site,
+        path: PathName,
+    },
     /// L4
     #[error("the blueprint is too large")]
-    TooLarge { site: Site },
+    TooLarge {
+        site: Site,
+    },
     /// L5
     #[error("both sides of a merge define the name")]
-    Conflict { site: Site, name: SymName },
+    Conflict {
+        site: Site,
+        name: SymName,
+    },
     /// L6
     #[error("the name to be renamed is neither defined nor open")]
-    NoName { site: Site, name: SymName },
+    NoName {
+        site: Site,
+        name: SymName,
+    },
     /// L7
     #[error("the name is not defined")]
-    NoDefinition { site: Site, name: SymName },
+    NoDefinition {
+        site: Site,
+        name: SymName,
+    },
     /// L8
     #[error("the new name is taken")]
-    Taken { site: Site, name: SymName },
+    Taken {
+        site: Site,
+        name: SymName,
+    },
     /// L9; pages of 4,096 bytes
     #[error("the image has {pages} pages")]
-    ImageTooLarge { pages: u64 },
+    ImageTooLarge {
+        pages: u64,
+    },
     /// L10
     #[error("the start is not defined")]
-    NoStart { name: SymName },
+    NoStart {
+        name: SymName,
+    },
     /// L11
     #[error("fixup {fixup} of leaf {leaf} has no target")]
-    Unresolved { leaf: u32, fixup: u32, name: SymName },
+    Unresolved {
+        leaf: u32,
+        fixup: u32,
+        name: SymName,
+    },
     /// L12; pages of 4,096 bytes, addresses of the range
     #[error("no {pages} pages are free from {lo} to {hi}")]
-    NoRoom { pages: u32, lo: u64, hi: u64 },
+    NoRoom {
+        pages: u32,
+        lo: u64,
+        hi: u64,
+    },
     /// L13
     #[error("the value of fixup {fixup} of leaf {leaf} does not fit its field")]
-    Overflow { leaf: u32, fixup: u32 },
+    Overflow {
+        leaf: u32,
+        fixup: u32,
+    },
 }

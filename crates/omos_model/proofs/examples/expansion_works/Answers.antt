@@ -1,6 +1,5 @@
 -- Each example computes.
 use Rattle.std.proofs.Common.{refl}
-use Rattle.omos_model.specs.Examples.{ExpansionExamples}
 use Rattle.omos_model.specs.Expansion.{expand}
 use Rattle.omos_model.proofs.examples.expansion_works.Goals as goal
 

@@ -3,7 +3,6 @@ use Rattle.std.proofs.Common.{refl}
 use Rattle.omos_base.specs.Fields.{number_at}
 use Rattle.omos_model.specs.ElfFaults.{object_fault}
 use Rattle.omos_model.specs.FragmentOf.{fragment_of}
-use Rattle.omos_model.specs.ObjectExamples.{ObjectExamples}
 use Rattle.omos_model.proofs.examples.objects_work.Goals as goal
 
 pub returns : goal.returns

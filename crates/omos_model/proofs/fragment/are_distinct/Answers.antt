@@ -1,8 +1,7 @@
-use Rattle.std.proofs.Common.{◌≡◌, ◌-◌, ◌<◌, suc, Bool, true, false, List, ◌∷◌, length, drop, ap, refl, sym, ◌∙◌, arith, not, get_or}
+use Rattle.std.proofs.Common.{◌≡◌, ◌-◌, suc, true, false, ◌∷◌, drop, ap, sym, ◌∙◌, arith, get_or}
 use Rattle.std.proofs.Math.Seq.{drop-cons}
 use Rattle.std.specs.BTreeSet.{contains}
-use Rattle.omos_model.specs.Names.{Name, name_cmp}
-use Rattle.omos_model.specs.declared.fragment.Export.{Export}
+use Rattle.omos_model.specs.Names.{name_cmp}
 use Rattle.omos_model.specs.FragmentParts.{is_exported, are_distinct}
 use Rattle.omos_model.proofs.Distinct.{are_distinct-drop, with_name, has_again, is_new, not_not}
 use Rattle.omos_model.proofs.fragment.are_distinct.Goals as goal
