@@ -1,6 +1,6 @@
 -- A section header as a record.
 use Rattle.std.specs.Prelude.{ℕ, ◌+◌, ◌≤◌, List, length}
-use Rattle.omos_model.specs.Section.{sh_type, sh_flags, sh_offset, sh_size, sh_link, sh_info, sh_addralign, sh_entsize}
+use Rattle.omos_model.specs.ElfFields.{sh_type, sh_flags, sh_offset, sh_size, sh_link, sh_info, sh_addralign, sh_entsize}
 use Rattle.elf_object.specs.declared.section.Shdr.{Shdr}
 
 -- the header of the section with this number

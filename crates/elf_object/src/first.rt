@@ -1,9 +1,9 @@
 //! Objects of the first form.
 
 ghost use Rattle.std.specs.Prelude.{◌≡◌, ◌<◌, ◌≤◌, ◌↔◌, ℕ, IsTrue, MatchOption, MatchResult, IfOk, length};
-ghost use Rattle.omos_model.specs.ElfHeader.{IsObject, e_shnum};
-ghost use Rattle.omos_model.specs.Section.{section_bytes};
-ghost use Rattle.omos_model.specs.Symbol.{st_value};
+ghost use Rattle.omos_model.specs.ElfFields.{e_shnum, section_bytes};
+ghost use Rattle.omos_model.specs.ElfHeader.{IsObject};
+ghost use Rattle.omos_model.specs.StartSymbol.{start_st_value};
 ghost use Rattle.omos_model.specs.FirstForm.{IsFirst, IsFirstForm, IsOnly, IsPlain};
 ghost use Rattle.elf_object.specs.Mark.{Bears};
 ghost use Rattle.elf_object.specs.First.{Describes, HasCause};
@@ -12,7 +12,7 @@ use crate::header::{check_header, section_count};
 use crate::section::header_of;
 use crate::symbol::symbol_of;
 use crate::tests_of::{defines_start, is_allocated, is_code, is_pair, is_plain, is_symbol_table};
-use omos_model::ObjectFault;
+use omos_model::HeaderFault;
 use std::marker::Model;
 use thiserror::Error;
 
@@ -21,7 +21,7 @@ use thiserror::Error;
 pub enum Early {
     /// It is no object.
     #[error(transparent)]
-    Object(ObjectFault),
+    Object(HeaderFault),
     /// Nothing is wrong with its header, and it isn't of the first form.
     #[error("the object is not of the form that is linked so far")]
     Unbuilt,
@@ -128,7 +128,7 @@ fn first_sections(file: &[u8]) -> Option<(usize, usize)>
 fn lend(file: &[u8], code: usize, table: usize) -> First<'_>
     requires { IsFirst file.now code table }
     ensures code { result.code ≡ section_bytes file.now code }
-    ensures start { result.start ≡ st_value file.now table 1 }
+    ensures start { result.start ≡ start_st_value file.now table }
 {
     let text = header_of(file, code);
     let from = text.sh_offset as usize;

@@ -1,10 +1,11 @@
 //! The ELF header of an object.
 
 ghost use Rattle.std.specs.Prelude.{◌≡◌, ◌≤◌, ◌↔◌, length, IsTrue, MatchResult};
-ghost use Rattle.omos_model.specs.ElfHeader.{HasHeaderFault, HasSections, IsElf, IsObject, IsRelocatable, e_shnum};
+ghost use Rattle.omos_model.specs.ElfFields.{e_shnum};
+ghost use Rattle.omos_model.specs.ElfHeader.{HasHeaderFault, HasSections, IsElf, IsObject, IsRelocatable};
 
 use omos_base::{u16_at, u32_at, u64_at};
-use omos_model::ObjectFault;
+use omos_model::HeaderFault;
 
 /// `e_ident` up to its version: the magic bytes, ELFCLASS64, ELFDATA2LSB, EV_CURRENT.
 const IDENTIFICATION: [u8; 7] = [0x7f, b'E', b'L', b'F', 2, 1, 1];
@@ -48,20 +49,20 @@ fn has_sections(file: &[u8]) -> bool
 }
 
 /// What is wrong with the header first.
-pub(crate) fn check_header(file: &[u8]) -> Result<(), ObjectFault>
+pub(crate) fn check_header(file: &[u8]) -> Result<(), HeaderFault>
     ensures { MatchResult result (λ _. IsObject file.now) (HasHeaderFault file.now) }
 {
     if file.len() < 64 || file.len() > 1_048_576 {
-        return Err(ObjectFault::Length);
+        return Err(HeaderFault::Length);
     }
     if !is_elf(file) {
-        return Err(ObjectFault::NotElf);
+        return Err(HeaderFault::NotElf);
     }
     if !is_relocatable(file) {
-        return Err(ObjectFault::Kind);
+        return Err(HeaderFault::Kind);
     }
     if !has_sections(file) {
-        return Err(ObjectFault::Headers);
+        return Err(HeaderFault::Headers);
     }
     Ok(())
 }

@@ -1,7 +1,8 @@
 //! Section headers.
 
 ghost use Rattle.std.specs.Prelude.{◌≡◌, ◌<◌};
-ghost use Rattle.omos_model.specs.ElfHeader.{IsObject, e_shnum};
+ghost use Rattle.omos_model.specs.ElfFields.{e_shnum};
+ghost use Rattle.omos_model.specs.ElfHeader.{IsObject};
 ghost use Rattle.elf_object.specs.Shdr.{section_header};
 
 use omos_base::{u32_at, u64_at};

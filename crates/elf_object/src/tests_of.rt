@@ -1,9 +1,9 @@
 //! What the first form asks of single sections and symbols.
 
 ghost use Rattle.std.specs.Prelude.{◌≡◌, ◌<◌, ◌≤◌, ◌↔◌, length, IsTrue};
-ghost use Rattle.omos_model.specs.ElfHeader.{IsObject, e_shnum};
-ghost use Rattle.omos_model.specs.Section.{IsAlignment, LiesIn, sh_link, sh_offset, sh_size};
-ghost use Rattle.omos_model.specs.FirstForm.{DefinesStart, HasNoRelocations, IsAllocated, IsCode, IsPair, IsPlain, IsStringTable, IsSymbolTable};
+ghost use Rattle.omos_model.specs.ElfFields.{e_shnum, sh_link, sh_offset, sh_size};
+ghost use Rattle.omos_model.specs.ElfHeader.{IsObject};
+ghost use Rattle.omos_model.specs.FirstForm.{DefinesStart, HasNoRelocations, IsAlignment, IsAllocated, IsCode, IsPair, IsPlain, IsStringTable, IsSymbolTable};
 ghost use Rattle.elf_object.specs.Shdr.{Fits};
 
 use crate::header::section_count;

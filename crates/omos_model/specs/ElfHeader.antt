@@ -1,26 +1,8 @@
--- The ELF header of an object (System V gABI, chapter 4, "ELF Header"), by its fields at their offsets.
+-- What is asked of an object's header (System V gABI, chapter 4, "ELF Header").
 use Rattle.std.specs.Prelude.{◌≡◌, ◌⊎◌, ℕ, ◌+◌, ◌*◌, ◌<◌, ◌≤◌, List, [], ◌∷◌, length, take, slice_index}
-use Rattle.omos_base.specs.Fields.{number_at}
-use Rattle.omos_model.specs.declared.fault.ObjectFault.{ObjectFault}
-use Rattle.omos_model.specs.declared.fault.ObjectFault.TheVariants.{Length, NotElf, Kind, Headers}
-
-abbrev pub e_type : List ℕ → ℕ
-e_type file = number_at 2 16 file
-
-abbrev pub e_machine : List ℕ → ℕ
-e_machine file = number_at 2 18 file
-
-abbrev pub e_version : List ℕ → ℕ
-e_version file = number_at 4 20 file
-
-abbrev pub e_shoff : List ℕ → ℕ
-e_shoff file = number_at 8 40 file
-
-abbrev pub e_shentsize : List ℕ → ℕ
-e_shentsize file = number_at 2 58 file
-
-abbrev pub e_shnum : List ℕ → ℕ
-e_shnum file = number_at 2 60 file
+use Rattle.omos_model.specs.ElfFields.{e_type, e_machine, e_version, e_shoff, e_shentsize, e_shnum}
+use Rattle.omos_model.specs.declared.header_fault.HeaderFault.{HeaderFault}
+use Rattle.omos_model.specs.declared.header_fault.HeaderFault.TheVariants.{Length, NotElf, Kind, Headers}
 
 -- the first bytes of e_ident: 7F and `ELF`, ELFCLASS64, ELFDATA2LSB, EV_CURRENT
 abbrev pub identification : List ℕ
@@ -53,7 +35,7 @@ pub record IsObject (file : List ℕ) : Type 0 where
   pub sections : HasSections file
 
 -- this is wrong with the header first
-abbrev pub HasHeaderFault : List ℕ → ObjectFault → Type 0
+abbrev pub HasHeaderFault : List ℕ → HeaderFault → Type 0
 HasHeaderFault file Length = HasLength file → ⊥
 HasHeaderFault file NotElf = HasLength file × (IsElf file → ⊥)
 HasHeaderFault file Kind = HasLength file × IsElf file × (IsRelocatable file → ⊥)

@@ -1,8 +1,65 @@
 -- The plainest objects: one section of code, one symbol table whose one symbol is the start, no relocations.
 use Rattle.std.specs.Prelude.{◌≡◌, ◌≢◌, ◌⊎◌, ℕ, ◌+◌, ◌*◌, ◌<◌, ◌≤◌, List, [], ◌∷◌, length, take, drop}
-use Rattle.omos_model.specs.ElfHeader.{IsObject, e_shnum}
-use Rattle.omos_model.specs.Section.{sh_type, sh_flags, sh_offset, sh_size, sh_link, sh_info, sh_addralign, sh_entsize, sht_progbits, sht_symtab, sht_strtab, sht_rela, sht_rel, sht_group, sht_symtab_shndx, shf_write, shf_alloc, shf_execinstr, shf_tls, shf_compressed, HasFlag, LacksFlag, LiesIn, IsAlignment}
-use Rattle.omos_model.specs.Symbol.{st_name, st_info, st_shndx, st_value}
+use Rattle.std.specs.Prelude.{bit_and, IsTrue}
+use Rattle.std.specs.Int.{is_power_of_two}
+use Rattle.omos_model.specs.ElfFields.{e_shnum, sh_type, sh_flags, sh_offset, sh_size, sh_link}
+use Rattle.omos_model.specs.ElfFields.{sh_info, sh_addralign, sh_entsize}
+use Rattle.omos_model.specs.ElfHeader.{IsObject}
+use Rattle.omos_model.specs.StartSymbol.{start_st_name, start_st_info, start_st_shndx, start_st_value}
+
+-- values of sh_type
+abbrev pub sht_progbits : ℕ
+sht_progbits = 1
+
+abbrev pub sht_symtab : ℕ
+sht_symtab = 2
+
+abbrev pub sht_strtab : ℕ
+sht_strtab = 3
+
+abbrev pub sht_rela : ℕ
+sht_rela = 4
+
+abbrev pub sht_rel : ℕ
+sht_rel = 9
+
+abbrev pub sht_group : ℕ
+sht_group = 17
+
+abbrev pub sht_symtab_shndx : ℕ
+sht_symtab_shndx = 18
+
+-- bits of sh_flags
+abbrev pub shf_write : ℕ
+shf_write = 1
+
+abbrev pub shf_alloc : ℕ
+shf_alloc = 2
+
+abbrev pub shf_execinstr : ℕ
+shf_execinstr = 4
+
+abbrev pub shf_tls : ℕ
+shf_tls = 0x400
+
+abbrev pub shf_compressed : ℕ
+shf_compressed = 0x800
+
+-- the section has the flag
+abbrev pub HasFlag : ℕ → List ℕ → ℕ → Type 0
+HasFlag flag file section = bit_and (sh_flags file section) flag ≢ 0
+
+-- the section hasn't the flag
+abbrev pub LacksFlag : ℕ → List ℕ → ℕ → Type 0
+LacksFlag flag file section = bit_and (sh_flags file section) flag ≡ 0
+
+-- the section's bytes lie in the file
+abbrev pub LiesIn : List ℕ → ℕ → Type 0
+LiesIn file section = sh_offset file section + sh_size file section ≤ length file
+
+-- 0, or a power of two up to 4,096
+abbrev pub IsAlignment : ℕ → Type 0
+IsAlignment n = (n ≤ 4096) × ((n ≡ 0) ⊎ IsTrue (is_power_of_two n))
 
 -- of the sections from 1 on, this one alone passes
 pub record IsOnly (Passes : ℕ → Type 0) (file : List ℕ) (section : ℕ) : Type 0 where
@@ -48,11 +105,11 @@ start_name = 95 ∷ 115 ∷ 116 ∷ 97 ∷ 114 ∷ 116 ∷ 0 ∷ []
 
 -- symbol 1 of the table is `_start`: STB_GLOBAL, of type STT_NOTYPE, STT_OBJECT or STT_FUNC, in the code
 pub record DefinesStart (file : List ℕ) (code table : ℕ) : Type 0 where
-  pub global : (0x10 ≤ st_info file table 1) × (st_info file table 1 ≤ 0x12)
-  pub in_code : st_shndx file table 1 ≡ code
-  pub inside : st_value file table 1 ≤ sh_size file code
-  pub name_inside : st_name file table 1 + 7 ≤ sh_size file (sh_link file table)
-  pub name : take 7 (drop (sh_offset file (sh_link file table) + st_name file table 1) file) ≡ start_name
+  pub global : (0x10 ≤ start_st_info file table) × (start_st_info file table ≤ 0x12)
+  pub in_code : start_st_shndx file table ≡ code
+  pub inside : start_st_value file table ≤ sh_size file code
+  pub name_inside : start_st_name file table + 7 ≤ sh_size file (sh_link file table)
+  pub name : take 7 (drop (sh_offset file (sh_link file table) + start_st_name file table) file) ≡ start_name
 
 -- a section for relocations has none
 pub record HasNoRelocations (file : List ℕ) (table section : ℕ) : Type 0 where

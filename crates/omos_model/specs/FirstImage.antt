@@ -4,8 +4,8 @@ use Rattle.std.specs.Prelude.{◌≡◌, ℕ, ◌+◌, ◌-◌, ◌*◌, ◌/◌
 use Rattle.omos_base.specs.Endian.{little_bytes}
 use Rattle.omos_base.specs.Fields.{zeros}
 use Rattle.omos_model.specs.ElfHeader.{identification}
-use Rattle.omos_model.specs.Section.{section_bytes}
-use Rattle.omos_model.specs.Symbol.{st_value}
+use Rattle.omos_model.specs.ElfFields.{section_bytes}
+use Rattle.omos_model.specs.StartSymbol.{start_st_value}
 use Rattle.omos_model.specs.FirstForm.{IsFirst}
 
 abbrev pub page : ℕ
@@ -78,4 +78,4 @@ image_of_code code start =
 -- this is the image of the file, an object of the first form
 abbrev pub FirstImage : List ℕ → List ℕ → Type 0
 FirstImage file image = (code : ℕ) × (table : ℕ) × IsFirst file code table
-    × (image ≡ image_of_code (section_bytes file code) (st_value file table 1))
+    × (image ≡ image_of_code (section_bytes file code) (start_st_value file table))

@@ -1,7 +1,22 @@
-//! What an object file says and what an image is, as definitions that the other crates' contracts
-//! cite (specs/), and the types that these definitions share with code.
+//! The linker's types, and what the server means by a namespace, a module and a refusal.
+//!
+//! The definitions stand in specs/. Nothing here reads a file, keeps a table or evaluates.
 #![tactic(auto)]
 
-mod fault;
+mod entry;
+pub mod examples;
+mod expr;
+mod fragment;
+mod header_fault;
+pub mod laws;
+mod mark;
+mod refusal;
+mod visit;
 
-pub use fault::ObjectFault;
+pub use entry::{Entry, Image, Stamped, Start};
+pub use expr::Expr;
+pub use fragment::{Aim, Export, Fixup, Fragment, FragmentFault, Group, Kind, Piece, Spot};
+pub use header_fault::HeaderFault;
+pub use mark::{Landing, Mark, MarkRow, Target};
+pub use refusal::{BpFault, ObjectFault, Refusal, Site};
+pub use visit::Visit;

@@ -4,7 +4,7 @@ mod names;
 
 use elf_object::{Early, first_form};
 use omos_base::{Bytes, Row, put_u16, put_u32, put_u64, u16_at, u32_at, u64_at};
-use omos_model::ObjectFault;
+use omos_model::HeaderFault;
 use omos_outside::{FixedSink, Got, PlainSource, Sink, Source, Took};
 use std::test::Fail;
 
@@ -63,11 +63,11 @@ fn the_plain_forms_in_memory(rt: HostRuntime) -> Result<(), Fail> {
 #[test]
 fn early_answers(rt: HostRuntime) {
     let header = [0; 64];
-    assert!(rt; matches!(first_form(&header), Err(Early::Object(ObjectFault::NotElf))));
+    assert!(rt; matches!(first_form(&header), Err(Early::Object(HeaderFault::NotElf))));
     assert!(rt;
         matches!(
             first_form(&header[1..]),
-            Err(Early::Object(ObjectFault::Length))
+            Err(Early::Object(HeaderFault::Length))
         )
     );
 }

@@ -3,11 +3,11 @@ use Rattle.std.proofs.Common.{◌≡◌, ◌≢◌, inl, inr, ℕ, ◌<◌, List
 use Rattle.std.specs.Io.KnownBytes.{Appends}
 use Rattle.std.proofs.lemmas.List.{append_cancel_left, append_cancel_right, append-nil, length-take}
 use Rattle.omos_outside.specs.Stream.{Stream}
-use Rattle.omos_model.specs.declared.fault.ObjectFault.{ObjectFault}
-use Rattle.omos_model.specs.declared.fault.ObjectFault.TheVariants as fault
+use Rattle.omos_model.specs.declared.header_fault.HeaderFault.{HeaderFault}
+use Rattle.omos_model.specs.declared.header_fault.HeaderFault.TheVariants as fault
 use Rattle.omos_model.specs.ElfHeader.{HasHeaderFault}
-use Rattle.omos_model.specs.Section.{section_bytes}
-use Rattle.omos_model.specs.Symbol.{st_value}
+use Rattle.omos_model.specs.ElfFields.{section_bytes}
+use Rattle.omos_model.specs.StartSymbol.{start_st_value}
 use Rattle.omos_model.specs.FirstForm.{IsFirst, IsOnly}
 use Rattle.omos_model.specs.FirstImage.{FirstImage, file_header, image_of_code}
 use Rattle.elf_object.specs.declared.first.Early.{Early}
@@ -28,8 +28,8 @@ same_image file a b x y =
     let code = same_only _ file x.0 y.0 x.2.only_code y.2.only_code in
     let table = same_only _ file x.1 y.1 x.2.only_table y.2.only_table in
     x.3
-    ∙ ap (λ (c : ℕ). image_of_code (section_bytes file c) (st_value file x.1 1)) code
-    ∙ ap (λ (t : ℕ). image_of_code (section_bytes file y.0) (st_value file t 1)) table
+    ∙ ap (λ (c : ℕ). image_of_code (section_bytes file c) (start_st_value file x.1)) code
+    ∙ ap (λ (t : ℕ). image_of_code (section_bytes file y.0) (start_st_value file t)) table
     ∙ sym y.3
 
 -- the first form has no cause to be refused
@@ -44,7 +44,7 @@ image_not_refusal : (file a b : List ℕ) → FirstImage file a → IsRefusal fi
 image_not_refusal file a b x y = taken_not_refused file x.0 x.1 y.0 x.2 y.1
 
 -- the faults of a header come one after another
-same_fault : (file : List ℕ) (a b : ObjectFault) → HasHeaderFault file a → HasHeaderFault file b → a ≡ b
+same_fault : (file : List ℕ) (a b : HeaderFault) → HasHeaderFault file a → HasHeaderFault file b → a ≡ b
 same_fault file fault.Length fault.Length x y = refl
 same_fault file fault.NotElf fault.NotElf x y = refl
 same_fault file fault.Kind fault.Kind x y = refl
@@ -62,14 +62,14 @@ same_fault file fault.Headers fault.Length x y = absurd (y x.0)
 same_fault file fault.Headers fault.NotElf x y = absurd (y.1 x.1)
 same_fault file fault.Headers fault.Kind x y = absurd (y.2 x.2)
 
-fault_not_object : (file : List ℕ) (f : ObjectFault) → HasHeaderFault file f → HasCause file early.Unbuilt → ⊥
+fault_not_object : (file : List ℕ) (f : HeaderFault) → HasHeaderFault file f → HasCause file early.Unbuilt → ⊥
 fault_not_object file fault.Length x y = x y.0.sized
 fault_not_object file fault.NotElf x y = x.1 y.0.elf
 fault_not_object file fault.Kind x y = x.2 y.0.relocatable
 fault_not_object file fault.Headers x y = x.3 y.0.sections
 
 same_cause : (file : List ℕ) (a b : Early) → HasCause file a → HasCause file b → a ≡ b
-same_cause file (early.Object a) (early.Object b) x y = ap (λ (f : ObjectFault). early.Object f) (same_fault file a b x y)
+same_cause file (early.Object a) (early.Object b) x y = ap (λ (f : HeaderFault). early.Object f) (same_fault file a b x y)
 same_cause file (early.Object a) early.Unbuilt x y = absurd (fault_not_object file a x y)
 same_cause file early.Unbuilt (early.Object b) x y = absurd (fault_not_object file b y x)
 same_cause file early.Unbuilt early.Unbuilt x y = refl

@@ -1,12 +1,12 @@
 -- The line that says why a file is refused.
 use Rattle.std.specs.Prelude.{◌≡◌, ℕ, List, [], ◌∷◌, ◌++◌, codes}
-use Rattle.omos_model.specs.declared.fault.ObjectFault.{ObjectFault}
-use Rattle.omos_model.specs.declared.fault.ObjectFault.TheVariants.{Length, NotElf, Kind, Headers}
+use Rattle.omos_model.specs.declared.header_fault.HeaderFault.{HeaderFault}
+use Rattle.omos_model.specs.declared.header_fault.HeaderFault.TheVariants.{Length, NotElf, Kind, Headers}
 use Rattle.elf_object.specs.declared.first.Early.{Early}
 use Rattle.elf_object.specs.declared.first.Early.TheVariants.{Object, Unbuilt}
 use Rattle.elf_object.specs.First.{HasCause}
 
-abbrev pub fault_name : ObjectFault → List ℕ
+abbrev pub fault_name : HeaderFault → List ℕ
 fault_name Length = codes "O1"
 fault_name NotElf = codes "O2"
 fault_name Kind = codes "O3"

@@ -1,10 +1,10 @@
-//! Why bytes are no object that is taken.
+//! What is wrong with the header of an object file. It goes once all of an object is read.
 
 use thiserror::Error;
 
-/// Why bytes are no object that is taken; the first that holds is answered.
+/// What is wrong with the header of an object file: the first faults of an object.
 #[derive(Clone, Copy, Debug, PartialEq, Eq, Error)]
-pub enum ObjectFault {
+pub enum HeaderFault {
     /// `O1`: fewer than 64 bytes, or more than 1,048,576.
     #[error("the file has fewer than 64 or more than 1,048,576 bytes")]
     Length,
