@@ -12,7 +12,8 @@ use Rattle.omos_model.specs.Numbers.{numbers_from, first_some}
 use Rattle.omos_model.specs.ElfFields.{e_type, e_machine, e_version, e_shoff, e_shentsize, e_shnum}
 use Rattle.omos_model.specs.ElfFields.{sh_type, sh_offset, sh_size, sh_link, sh_info, sh_addralign}
 use Rattle.omos_model.specs.ElfFields.{sh_entsize}
-use Rattle.omos_model.specs.ElfFields.{has_flag, is_section, sections, symtab_type, symbol_count}
+use Rattle.omos_model.specs.ElfFields.{has_flag, is_section, sections, is_symtab, symtabs}
+use Rattle.omos_model.specs.ElfFields.{symbol_count}
 use Rattle.omos_model.specs.ElfFields.{symbols}
 use Rattle.omos_model.specs.ElfFields.{st_shndx, st_value, st_size, binding, symbol_type}
 use Rattle.omos_model.specs.ElfFields.{name_bytes, name_of}
@@ -72,9 +73,6 @@ is_unsupported file i =
     || (is_alloc file i && not (is_supported file i))
 
 -- ---- symbols (gABI, "Symbol Table")
-
-abbrev pub is_symtab : List ℕ → ℕ → Bool
-is_symtab file i = is_section file i && (sh_type file i == symtab_type)
 
 -- a string table's number, and the table lies in the file
 abbrev pub is_strtab : List ℕ → ℕ → Bool
@@ -246,20 +244,22 @@ has_headers file =
 abbrev pub fault_unless : Bool → ObjectFault → Option ObjectFault
 fault_unless fine x = if fine then None else Some x
 
--- O1 to O11, in this order
-unfoldable pub object_fault : List ℕ → Option ObjectFault
-object_fault file =
-    first_some (
+-- O1 to O11, in this order, each where it is there
+abbrev pub faults : List ℕ → List (Option ObjectFault)
+faults file =
     fault_unless (nat_le 64 (length file) && nat_le (length file) 1048576) fault.Length
     ∷ fault_unless (is_elf file) fault.NotElf
     ∷ fault_unless (is_relocatable file) fault.Kind
     ∷ fault_unless (has_headers file) fault.Headers
     ∷ option_map fault.Section (find (is_wrong_section file) (sections file))
     ∷ option_map fault.Unsupported (find (is_unsupported file) (sections file))
-    ∷ fault_unless (are_right_symtabs file (filter (is_symtab file) (sections file))) fault.Symbols
+    ∷ fault_unless (are_right_symtabs file (symtabs file)) fault.Symbols
     ∷ option_map fault.Symbol (find (is_wrong_symbol file) (symbols file))
     ∷ option_map (λ k. fault.Twice (name_of file k)) (find (is_again file) (symbols file))
     ∷ option_map fault.Relas (find (is_wrong_rela file) (sections file))
     ∷ option_map (λ e. fault.Rela e.0 e.1) (find (is_wrong_entry file) (entries file))
     ∷ []
-    )
+
+-- the first fault of a file
+unfoldable pub object_fault : List ℕ → Option ObjectFault
+object_fault file = first_some (faults file)

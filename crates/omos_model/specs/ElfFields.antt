@@ -1,7 +1,7 @@
 -- The fields of an object file at their offsets, under the names of the System V gABI (chapter 4).
 use Rattle.std.specs.Prelude.{ℕ, ◌+◌, ◌-◌, ◌*◌, ◌/◌, ◌%◌, ◌^◌, ◌==◌, nat_lt, Bool, not, ◌&&◌}
-use Rattle.std.specs.Prelude.{if◌then◌else◌, List, take, drop, ℤ, unwrap_or}
-use Rattle.std.specs.List.{find, take_while}
+use Rattle.std.specs.Prelude.{if◌then◌else◌, List, take, drop, ℤ, unwrap_or, filter}
+use Rattle.std.specs.List.{slice_get, take_while}
 use Rattle.std.specs.Int.{cast_signed, w64}
 use Rattle.omos_base.specs.Fields.{number_at}
 use Rattle.omos_model.specs.Names.{Name}
@@ -75,12 +75,16 @@ sections file = numbers_from 1 (e_shnum file - 1)
 
 -- ---- symbol k (gABI, "Symbol Table")
 
-abbrev pub symtab_type : ℕ
-symtab_type = 2
+abbrev pub is_symtab : List ℕ → ℕ → Bool
+is_symtab file i = is_section file i && (sh_type file i == 2)
+
+-- the symbol tables, of which an object has one at most
+abbrev pub symtabs : List ℕ → List ℕ
+symtabs file = filter (is_symtab file) (sections file)
 
 -- the first symbol table's number, or 0 where there is none
 abbrev pub symbol_table : List ℕ → ℕ
-symbol_table file = unwrap_or (find (λ i. sh_type file i == symtab_type) (sections file)) 0
+symbol_table file = unwrap_or (slice_get (symtabs file) 0) 0
 
 -- how many symbols there are, symbol 0 among them
 abbrev pub symbol_count : List ℕ → ℕ

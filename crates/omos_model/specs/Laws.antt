@@ -1,10 +1,12 @@
 -- Laws of the definitions.
 use Rattle.std.specs.Prelude.{◌≡◌, ◌↔◌, ℕ, ◌==◌, Bool, false, not, List, [], ◌∷◌, filter, map}
-use Rattle.std.specs.Prelude.{reverse, take, Ok, IsTrue}
+use Rattle.std.specs.Prelude.{reverse, take, Ok, IfOk, IsTrue}
 use Rattle.std.specs.List.{list_all, list_any, find}
 use Rattle.std.specs.List.Sorted.{IsStrictlySortedBy}
 use Rattle.omos_base.specs.SymNames.{IsSymName}
 use Rattle.omos_model.specs.Names.{Name, same_name, name_cmp, is_symbol_name}
+use Rattle.omos_model.specs.FragmentParts.{IsFragment}
+use Rattle.omos_model.specs.FragmentOf.{fragment_of}
 use Rattle.omos_model.specs.NameLists.{distinct, IsLeast}
 use Rattle.omos_model.specs.Numbers.{numbers_from}
 use Rattle.omos_model.specs.Op.{Restrict, Freeze, Hide}
@@ -78,6 +80,12 @@ RowsLaw = (t : Term) → map (λ r. r.number) (states t) ≡ leaf_numbers t
 -- the conflict of a merge is the least of all names that both define
 abbrev pub ConflictLaw : Type 0
 ConflictLaw = (l r : Term) → IsLeast (both_define l r) (conflict l r)
+
+-- ---- objects
+
+-- what a file without a fault holds is a fragment
+abbrev pub FragmentLaw : Type 0
+FragmentLaw = (file : List ℕ) → IfOk (fragment_of file) IsFragment
 
 -- ---- expansion and the namespace
 

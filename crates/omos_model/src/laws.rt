@@ -2,7 +2,7 @@
 
 ghost use Rattle.omos_model.specs.Laws.{HideLaw, MergeLaw, OverrideLaw, StatesLaw, RowsLaw};
 ghost use Rattle.omos_model.specs.Laws.{ConflictLaw};
-ghost use Rattle.omos_model.specs.Laws.{LeavesLaw, LastPutLaw, OrderLaw, NameLaw};
+ghost use Rattle.omos_model.specs.Laws.{FragmentLaw, LeavesLaw, LastPutLaw, OrderLaw, NameLaw};
 
 /// To hide a name is to freeze it and then to restrict it.
 pub fn hide_is_freeze_then_restrict()
@@ -33,6 +33,11 @@ pub fn conflict_is_the_least()
 /// The test on symbol names that the faults of an object take is right.
 pub fn names_are_tested()
     ensures { NameLaw }
+{}
+
+/// What a file without a fault holds is a fragment.
+pub fn files_hold_fragments()
+    ensures { FragmentLaw }
 {}
 
 /// The leaves of an expansion are numbered from 0, from left to right.
