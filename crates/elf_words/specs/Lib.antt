@@ -1,0 +1,5 @@
+pub mod Ehdr
+pub mod Shdr
+pub mod Sym
+pub mod Rela
+pub mod Phdr
