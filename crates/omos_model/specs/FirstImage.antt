@@ -27,46 +27,46 @@ padded size bytes = bytes ++ zeros (size - length bytes)
 unfoldable pub file_header : ℕ → List ℕ
 file_header entry =
     let e_ident = identification ++ zeros 9 in
-    let e_type = little_bytes 2 2 in            -- 16: ET_EXEC
-    let e_machine = little_bytes 2 62 in        -- 18: EM_X86_64
-    let e_version = little_bytes 4 1 in         -- 20: EV_CURRENT
-    let e_entry = little_bytes 8 entry in       -- 24
-    let e_phoff = little_bytes 8 64 in          -- 32: right behind this header
-    let e_shoff = little_bytes 8 0 in           -- 40: no section headers
-    let e_flags = little_bytes 4 0 in           -- 48
-    let e_ehsize = little_bytes 2 64 in         -- 52
-    let e_phentsize = little_bytes 2 56 in      -- 54
-    let e_phnum = little_bytes 2 2 in           -- 56
-    let e_shentsize = little_bytes 2 0 in       -- 58
-    let e_shnum = little_bytes 2 0 in           -- 60
-    let e_shstrndx = little_bytes 2 0 in        -- 62
+    let e_type = little_bytes 2 2 in  -- 16: ET_EXEC
+    let e_machine = little_bytes 2 62 in  -- 18: EM_X86_64
+    let e_version = little_bytes 4 1 in  -- 20: EV_CURRENT
+    let e_entry = little_bytes 8 entry in  -- 24
+    let e_phoff = little_bytes 8 64 in  -- 32: right behind this header
+    let e_shoff = little_bytes 8 0 in  -- 40: no section headers
+    let e_flags = little_bytes 4 0 in  -- 48
+    let e_ehsize = little_bytes 2 64 in  -- 52
+    let e_phentsize = little_bytes 2 56 in  -- 54
+    let e_phnum = little_bytes 2 2 in  -- 56
+    let e_shentsize = little_bytes 2 0 in  -- 58
+    let e_shnum = little_bytes 2 0 in  -- 60
+    let e_shstrndx = little_bytes 2 0 in  -- 62
     e_ident ++ e_type ++ e_machine ++ e_version ++ e_entry ++ e_phoff ++ e_shoff ++ e_flags
     ++ e_ehsize ++ e_phentsize ++ e_phnum ++ e_shentsize ++ e_shnum ++ e_shstrndx
 
 -- the program header of so many bytes of code, which stand behind the header page
 unfoldable pub code_segment : ℕ → List ℕ
 code_segment size =
-    let p_type = little_bytes 4 1 in            -- 0: PT_LOAD
-    let p_flags = little_bytes 4 5 in           -- 4: PF_R and PF_X
-    let p_offset = little_bytes 8 page in       -- 8
-    let p_vaddr = little_bytes 8 base in        -- 16
-    let p_paddr = little_bytes 8 base in        -- 24
-    let p_filesz = little_bytes 8 size in       -- 32
-    let p_memsz = little_bytes 8 size in        -- 40
-    let p_align = little_bytes 8 page in        -- 48
+    let p_type = little_bytes 4 1 in  -- 0: PT_LOAD
+    let p_flags = little_bytes 4 5 in  -- 4: PF_R and PF_X
+    let p_offset = little_bytes 8 page in  -- 8
+    let p_vaddr = little_bytes 8 base in  -- 16
+    let p_paddr = little_bytes 8 base in  -- 24
+    let p_filesz = little_bytes 8 size in  -- 32
+    let p_memsz = little_bytes 8 size in  -- 40
+    let p_align = little_bytes 8 page in  -- 48
     p_type ++ p_flags ++ p_offset ++ p_vaddr ++ p_paddr ++ p_filesz ++ p_memsz ++ p_align
 
 -- the program header that says that no code stands on the stack (a GNU extension)
 unfoldable pub stack_segment : List ℕ
 stack_segment =
-    let p_type = little_bytes 4 0x6474E551 in   -- 0: PT_GNU_STACK
-    let p_flags = little_bytes 4 6 in           -- 4: PF_R and PF_W
-    let p_offset = little_bytes 8 0 in          -- 8
-    let p_vaddr = little_bytes 8 0 in           -- 16
-    let p_paddr = little_bytes 8 0 in           -- 24
-    let p_filesz = little_bytes 8 0 in          -- 32
-    let p_memsz = little_bytes 8 0 in           -- 40
-    let p_align = little_bytes 8 16 in          -- 48
+    let p_type = little_bytes 4 0x6474E551 in  -- 0: PT_GNU_STACK
+    let p_flags = little_bytes 4 6 in  -- 4: PF_R and PF_W
+    let p_offset = little_bytes 8 0 in  -- 8
+    let p_vaddr = little_bytes 8 0 in  -- 16
+    let p_paddr = little_bytes 8 0 in  -- 24
+    let p_filesz = little_bytes 8 0 in  -- 32
+    let p_memsz = little_bytes 8 0 in  -- 40
+    let p_align = little_bytes 8 16 in  -- 48
     p_type ++ p_flags ++ p_offset ++ p_vaddr ++ p_paddr ++ p_filesz ++ p_memsz ++ p_align
 
 -- The image of code that starts at this offset: a page with the headers, and the code in whole pages.

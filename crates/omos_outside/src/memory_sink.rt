@@ -40,20 +40,21 @@ impl Model for MemorySink {
     } };
 
     ghost invariant = { λ s.
-      (vec_len s.items ≤ s.room) × (s.room ≤ vec_capacity s.items) × (0 < s.step) };
+        (vec_len s.items ≤ s.room) × (s.room ≤ vec_capacity s.items) × (0 < s.step) };
 }
 
 impl MemorySink {
     /// An empty sink with room for so many bytes, which are taken now.
-    pub fn new(
-        alloc: Global,
-        room: u32,
-        step: u32,
-        fails: Row<u32>,
-    ) -> Result<MemorySink, NoMemory>
+    pub fn new(alloc: Global, room: u32, step: u32, fails: Row<u32>) -> Result<MemorySink, NoMemory>
         requires { 0 < step }
         ensures { IfOk result (λ sink. sink ≡ record {
-            held = []; room = room; step = step; fails = fails; calls = 0; faults = 0 }) }
+          held = [];
+          room = room;
+          step = step;
+          fails = fails;
+          calls = 0;
+          faults = 0;
+        }) }
     {
         let items = Vec::with_capacity(alloc, room as usize)?;
         Ok(MemorySink {
