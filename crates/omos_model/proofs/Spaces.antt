@@ -1,4 +1,5 @@
 -- What a namespace has after its publishes.
+use Rattle.std.proofs.Common.{ℕ, suc, ◌+◌, length, length-append, arith}
 use Rattle.std.proofs.Common.{◌≡◌, Bool, true, false, List, [], ◌∷◌, ◌++◌, Option, Some, None, refl}
 use Rattle.std.proofs.Common.{sym, ap, ◌∙◌, fold, cond, map, reverse, take, subst, true≢false}
 use Rattle.std.specs.List.{find, AllByRecursion}
@@ -8,12 +9,13 @@ use Rattle.std.specs.Ordering.{match_ordering, is_eq, ordering_reverse}
 use Rattle.std.specs.declared.cmp.Ordering.{Ordering}
 use Rattle.std.specs.declared.cmp.Ordering.TheVariants.{Less, Equal, Greater}
 use Rattle.std.proofs.lemmas.Cmp.{nat_list_cmp_total}
-use Rattle.std.proofs.lemmas.List.{reverse-append}
+use Rattle.std.proofs.lemmas.List.{reverse-append, take_all, take-append-le}
 use Rattle.std.proofs.lemmas.List.Folds.{find-append}
 use Rattle.std.proofs.lemmas.Map.Lookups.{exact_bytes}
 use Rattle.omos_model.specs.Names.{Name, same_name, name_cmp}
-use Rattle.omos_model.specs.Laws.{LastPutLaw, OrderLaw}
+use Rattle.omos_model.specs.Laws.{LastPutLaw, OrderLaw, NextVersionLaw, OldVersionsLaw}
 use Rattle.omos_model.specs.Namespace.{Space, look_up, with_entry, stamped_from}
+use Rattle.omos_model.specs.declared.entry.Entry.{Entry}
 use Rattle.omos_model.specs.declared.entry.Stamped.{Stamped}
 use Rattle.omos_model.proofs.Names.{same_name-true, same_name-refl, is_eq-name_cmp}
 
@@ -104,3 +106,36 @@ sorted_after_all (s ∷ ss) ns h = sorted_after_all ss (with_entry ns s) (IsStri
 pub order_law : OrderLaw
 unfolding IsStrictlySortedBy
 order_law puts v = sorted_after_all (stamped_from 1 (take v puts)) [] tt
+
+-- ---- versions
+
+fold-append : {A B : Type 0} (f : B → A → B) (b : B) (xs ys : List A) → fold f b (xs ++ ys) ≡ fold f (fold f b xs) ys
+fold-append f b [] ys = refl
+fold-append f b (x ∷ xs) ys = fold-append f (f b x) xs ys
+
+stamped_from-append : (n : ℕ) (xs ys : List (Name × Entry))
+    → stamped_from n (xs ++ ys) ≡ stamped_from n xs ++ stamped_from (n + length xs) ys
+stamped_from-append n [] ys = let e : n ≡ n + 0 = omega arith in ap (λ m. stamped_from m ys) e
+stamped_from-append n (x ∷ xs) ys =
+    let e : n + 1 + length xs ≡ n + suc (length xs) = omega arith in
+    ap (λ ss. record { path = x.0; stamp = n; entry = x.1 } ∷ ss)
+    (stamped_from-append (n + 1) xs ys ∙ ap (λ m. stamped_from (n + 1) xs ++ stamped_from m ys) e)
+
+abbrev made_of : List (Name × Entry) → Space
+made_of puts = fold with_entry [] (stamped_from 1 puts)
+
+pub next_version_law : NextVersionLaw
+next_version_law puts path entry =
+    let put : Name × Entry = (path, entry) in
+    let whole : take (length puts + 1) (puts ++ put ∷ []) ≡ puts ++ put ∷ [] =
+      take_all (length puts + 1) (puts ++ put ∷ []) (omega (arith, length-append puts (put ∷ []))) in
+    let old : take (length puts) puts ≡ puts = take_all (length puts) puts (omega arith) in
+    let stamp : 1 + length puts ≡ length puts + 1 = omega arith in
+    ap made_of whole
+    ∙ ap (fold with_entry []) (stamped_from-append 1 puts (put ∷ []))
+    ∙ fold-append with_entry [] (stamped_from 1 puts) (stamped_from (1 + length puts) (put ∷ []))
+    ∙ ap (λ n. with_entry (made_of puts) (record { path = path; stamp = n; entry = entry })) stamp
+    ∙ ap (λ ps. with_entry (made_of ps) (record { path = path; stamp = length puts + 1; entry = entry })) (sym old)
+
+pub old_versions_law : OldVersionsLaw
+old_versions_law puts more v h = ap made_of (take-append-le v puts more h)

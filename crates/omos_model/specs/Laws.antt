@@ -1,7 +1,7 @@
 -- Laws of the definitions.
-use Rattle.std.specs.Prelude.{◌≡◌, ◌↔◌, ℕ, ◌==◌, Bool, false, not, List, [], ◌∷◌, filter, map}
+use Rattle.std.specs.Prelude.{◌≡◌, ◌↔◌, ◌+◌, ◌≤◌, ◌++◌, Some, slice_get, ℕ, ◌==◌, Bool, false, not, List, [], ◌∷◌, filter, map}
 use Rattle.std.specs.Prelude.{reverse, take, Ok, IfOk, IsTrue}
-use Rattle.std.specs.List.{list_all, list_any, find}
+use Rattle.std.specs.List.{list_all, list_any, find, IsDistinct}
 use Rattle.std.specs.List.Sorted.{IsStrictlySortedBy}
 use Rattle.omos_base.specs.SymNames.{IsSymName}
 use Rattle.omos_model.specs.Names.{Name, same_name, name_cmp, is_symbol_name}
@@ -14,9 +14,11 @@ use Rattle.omos_model.specs.Term.{Term, Merge, Override, Apply, leaf_numbers}
 use Rattle.omos_model.specs.Definition.{definition, written}
 use Rattle.omos_model.specs.State.{state, states, in_rows}
 use Rattle.omos_model.specs.FirstRefusal.{both_define, conflict}
-use Rattle.omos_model.specs.Namespace.{Space, look_up, stamped_from, namespace_at}
+use Rattle.omos_model.specs.Namespace.{Space, look_up, stamped_from, with_entry, version_of, namespace_at}
 use Rattle.omos_model.specs.Expansion.{expansion}
+use Rattle.omos_model.specs.Footprint.{footprint}
 use Rattle.omos_model.specs.declared.entry.Entry.{Entry}
+use Rattle.omos_model.specs.declared.entry.Stamped.{Stamped}
 use Rattle.omos_model.specs.declared.refusal.Site.{Site}
 use Rattle.omos_model.specs.declared.visit.Visit.{Visit}
 
@@ -107,3 +109,24 @@ abbrev pub OrderLaw : Type 0
 OrderLaw =
     (puts : List (Name × Entry)) (v : ℕ)
     → IsStrictlySortedBy name_cmp (map (λ s. s.path) (namespace_at puts v))
+
+-- a publish makes the next version, in which its path alone has another entry
+abbrev pub NextVersionLaw : Type 0
+NextVersionLaw =
+    (puts : List (Name × Entry)) (path : Name) (entry : Entry)
+    → namespace_at (puts ++ (path, entry) ∷ []) (version_of puts + 1)
+    ≡ with_entry (namespace_at puts (version_of puts))
+      (record { path = path; stamp = version_of puts + 1; entry = entry })
+
+-- later publishes change no version that is there
+abbrev pub OldVersionsLaw : Type 0
+OldVersionsLaw =
+    (puts more : List (Name × Entry)) (v : ℕ) → v ≤ version_of puts
+    → namespace_at (puts ++ more) v ≡ namespace_at puts v
+
+-- the footprint has an entry for each path read, the requested one first, and each path once
+abbrev pub FootprintLaw : Type 0
+FootprintLaw =
+    (ns : Space) (path : Name) (t : Term) (v : Visit) (entries : List Stamped)
+    → expansion ns path ≡ Ok (t, v) → footprint ns path ≡ Some entries
+    → (map (λ s. s.path) entries ≡ v.read) × (slice_get v.read 0 ≡ Some path) × IsDistinct same_name v.read

@@ -2,6 +2,7 @@
 
 ghost use Rattle.omos_model.specs.Laws.{HideLaw, MergeLaw, OverrideLaw, StatesLaw, RowsLaw};
 ghost use Rattle.omos_model.specs.Laws.{ConflictLaw};
+ghost use Rattle.omos_model.specs.Laws.{FootprintLaw, NextVersionLaw, OldVersionsLaw};
 ghost use Rattle.omos_model.specs.Laws.{FragmentLaw, LeavesLaw, LastPutLaw, OrderLaw, NameLaw};
 
 /// To hide a name is to freeze it and then to restrict it.
@@ -49,4 +50,15 @@ pub fn leaves_are_numbered()
 pub fn namespace_keeps_the_last()
     ensures last { LastPutLaw }
     ensures order { OrderLaw }
+{}
+
+/// A publish makes the next version out of the last, and changes no version that is there.
+pub fn versions_follow()
+    ensures next { NextVersionLaw }
+    ensures old { OldVersionsLaw }
+{}
+
+/// The footprint has each path read once, the requested one first.
+pub fn footprint_lists_what_is_read()
+    ensures { FootprintLaw }
 {}
