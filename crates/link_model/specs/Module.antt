@@ -1,0 +1,116 @@
+-- Evaluated modules, their layout and their images, as values of the types that keep them.
+use Rattle.std.specs.Prelude.{◌≡◌, ℕ, List, [], map, Option, Some, None, Ok, slice_get, unwrap_or}
+use Rattle.std.specs.List.{find}
+use Rattle.std.specs.Option.{option_map}
+use Rattle.omos_model.specs.Names.{Name, same_name}
+use Rattle.omos_model.specs.Namespace.{look_up}
+use Rattle.omos_model.specs.Term.{Term}
+use Rattle.omos_model.specs.Definition.{definition}
+use Rattle.omos_model.specs.State.{states}
+use Rattle.omos_model.specs.FirstRefusal.{first_refusal}
+use Rattle.omos_model.specs.Expansion.{expansion}
+use Rattle.omos_model.specs.Footprint.{footprint}
+use Rattle.omos_model.specs.declared.entry.Entry.{Entry}
+use Rattle.omos_model.specs.declared.entry.Stamped.{Stamped}
+use Rattle.omos_model.specs.declared.entry.Start.{Start}
+use Rattle.omos_model.specs.declared.mark.Landing.{Landing}
+use Rattle.omos_model.specs.declared.mark.Target.{Target}
+use Rattle.omos_model.specs.declared.visit.Visit.{Visit}
+use Rattle.link_model.specs.declared.evaluated.Found.{Found}
+use Rattle.link_model.specs.Program.{Terms, landings_of, terms_of}
+use Rattle.link_model.specs.Plan.{Plan, plan_of}
+use Rattle.link_model.specs.Answer.{answer}
+
+-- what contracts see of an evaluated module
+pub record Module : Type 0 where
+  pub path : Name
+  pub leaves : List Entry
+  pub landings : List (List Landing)
+  pub names : List Found
+  pub footprint : List Stamped
+  pub start : Start
+  pub lo : ℕ
+  pub hi : ℕ
+
+abbrev pub module_of : Name → List Entry → List (List Landing) → List Found → List Stamped → Start → ℕ → ℕ → Module
+module_of path leaves landings names footprint start lo hi =
+    record {
+      path = path;
+      leaves = leaves;
+      landings = landings;
+      names = names;
+      footprint = footprint;
+      start = start;
+      lo = lo;
+      hi = hi;
+    }
+
+-- what a fixup of a leaf lands on, if it is there
+abbrev pub landing_at : Module → ℕ → ℕ → Option Landing
+landing_at m leaf fixup = slice_get (unwrap_or (slice_get m.landings leaf) []) fixup
+
+-- what a name is found as
+abbrev pub found : List Found → Name → Option Target
+found names n = option_map (λ x. x.target) (find (λ x. same_name n x.name) names)
+
+abbrev pub terms_of_module : Module → Terms
+terms_of_module m = record { start = m.start; lo = m.lo; hi = m.hi }
+
+-- the module is the path's, on the namespace that its footprint lists, by this term
+pub record IsEvaluation (m : Module) (t : Term) (v : Visit) : Type 0 where
+  pub expanded : expansion m.footprint m.path ≡ Ok (t, v)
+  pub unrefused : first_refusal t ≡ None
+  pub leaves : m.leaves ≡ map (λ r. r.entry) (states t)
+  pub landings : m.landings ≡ map (landings_of t) (states t)
+  pub names : (n : Name) → found m.names n ≡ definition t n
+  pub footprint : footprint m.footprint m.path ≡ Some m.footprint
+  pub terms : option_map (λ s. terms_of s.entry) (look_up m.footprint m.path) ≡ Some (terms_of_module m)
+
+abbrev pub IsModule : Module → Type 0
+IsModule m = (t : Term) × (v : Visit) × IsEvaluation m t v
+
+-- what contracts see of a layout
+pub record Placing : Type 0 where
+  pub pages : ℕ
+  pub places : List (List ℕ)
+  pub slots : List Target
+
+-- where a piece of a leaf stands, if it is there
+abbrev pub piece_place : Placing → ℕ → ℕ → Option ℕ
+piece_place l leaf piece = slice_get (unwrap_or (slice_get l.places leaf) []) piece
+
+abbrev pub placing_of : Plan → Placing
+placing_of plan = record { pages = plan.pages; places = plan.places; slots = plan.slots }
+
+-- a module with its layout
+pub record Ready : Type 0 where
+  pub evaluated : Module
+  pub layout : Placing
+
+abbrev pub ready_of : Module → Placing → Ready
+ready_of m layout = record { evaluated = m; layout = layout }
+
+-- the layout is that of the module's plan
+abbrev pub IsReady : Ready → Type 0
+IsReady r =
+    IsModule r.evaluated
+    × ((plan : Plan) × (plan_of r.evaluated.footprint r.evaluated.path ≡ Ok plan) × (r.layout ≡ placing_of plan))
+
+-- what contracts see of a linked image
+pub record LinkedImage : Type 0 where
+  pub path : Name
+  pub base : ℕ
+  pub pages : ℕ
+  pub bytes : List ℕ
+  pub footprint : List Stamped
+
+abbrev pub linked_image : Name → ℕ → ℕ → List ℕ → List Stamped → LinkedImage
+linked_image path base pages bytes footprint =
+    record { path = path; base = base; pages = pages; bytes = bytes; footprint = footprint }
+
+-- the bytes are the answer on the namespace that the footprint lists, and the pages the plan's
+pub record IsLinked (x : LinkedImage) : Type 0 where
+  pub plan : Plan
+  pub planned : plan_of x.footprint x.path ≡ Ok plan
+  pub pages : x.pages ≡ plan.pages
+  pub answered : answer x.footprint x.path x.base ≡ Ok x.bytes

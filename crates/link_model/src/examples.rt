@@ -1,0 +1,18 @@
+//! Worked examples of the definitions, each the contract of a function that does nothing.
+
+ghost use Rattle.link_model.specs.Examples.{FieldExamples, PlanExamples, SlotExamples};
+
+/// What fields are, and which values fit.
+pub fn fields_work()
+    ensures { FieldExamples }
+{}
+
+/// Where slots stand, and what they and the fields that use them hold.
+pub fn slots_work()
+    ensures { SlotExamples }
+{}
+
+/// When a program has no plan or no image.
+pub fn plans_work()
+    ensures { PlanExamples }
+{}

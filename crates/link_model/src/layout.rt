@@ -1,0 +1,60 @@
+//! Where the pieces and the slots of a module stand.
+
+ghost use Rattle.std.specs.Prelude.{◌≡◌, IsSome, Some};
+ghost use Rattle.link_model.specs.Module.{Placing, piece_place};
+
+use omos_base::Row;
+use omos_model::Target;
+use std::marker::Model;
+
+/// Where the pieces and the slots of a module stand, counted from the base.
+#[derive(Debug, Drop)]
+pub struct Layout {
+    pages: u32,
+    places: Row<Row<u64>>,
+    slots: Row<Target>,
+}
+
+impl Model for Layout {
+    ghost use Rattle.link_model.specs.Module.{Placing};
+
+    ghost Value = { Placing };
+
+    ghost view = { λ l. record { pages = l.pages; places = l.places; slots = l.slots } };
+}
+
+impl Layout {
+    /// A layout of so many pages, with the place of each piece by leaf and number, and the
+    /// targets of the slots in their order. It takes no memory.
+    pub fn of(pages: u32, places: Row<Row<u64>>, slots: Row<Target>) -> Layout
+        ensures { result ≡ record { pages = pages; places = places; slots = slots } }
+    {
+        Layout {
+            pages,
+            places,
+            slots,
+        }
+    }
+
+    /// How many pages of 4,096 bytes there are, at least one.
+    pub fn pages(&self) -> u32
+        ensures { result ≡ self.now.pages }
+    {
+        self.pages
+    }
+
+    /// Where a piece of a leaf stands, in bytes from the base.
+    pub fn place(&self, leaf: u32, piece: u32) -> u64
+        requires { IsSome (piece_place self.now leaf piece) }
+        ensures { piece_place self.now leaf piece ≡ Some result }
+    {
+        self.places.as_slice()[leaf as usize].as_slice()[piece as usize]
+    }
+
+    /// The targets of the slots, in their order.
+    pub fn slots(&self) -> &[Target]
+        ensures { result.now ≡ self.now.slots }
+    {
+        self.slots.as_slice()
+    }
+}

@@ -1,0 +1,16 @@
+//! What stands between a path and its image: evaluated modules, their layout, plans and linked
+//! images, as types that keep what they promise, and the definitions of plan, fields and bytes.
+//!
+//! The definitions stand in specs/. Nothing here evaluates, lays out or writes.
+#![tactic(auto)]
+
+mod evaluated;
+pub mod examples;
+mod layout;
+mod linked;
+mod planned;
+
+pub use evaluated::{Evaluated, Found};
+pub use layout::Layout;
+pub use linked::Linked;
+pub use planned::Planned;

@@ -1,0 +1,77 @@
+//! A linked image.
+
+ghost use Rattle.std.specs.Prelude.{◌≡◌};
+ghost use Rattle.link_model.specs.Module.{IsLinked};
+
+use omos_base::{Bytes, PathName, Row};
+use omos_model::Stamped;
+use std::marker::Model;
+
+/// The image of a path at a base.
+///
+/// It keeps that its bytes are the answer of uncached evaluation on the namespace that its
+/// footprint lists.
+#[derive(Drop)]
+pub struct Linked {
+    path: PathName,
+    base: u64,
+    pages: u32,
+    bytes: Bytes,
+    footprint: Row<Stamped>,
+}
+
+impl Model for Linked {
+    ghost use Rattle.omos_model.specs.contracts.expr.Expr as expr;
+    ghost use Rattle.std.specs.Coded.{codes};
+    ghost use Rattle.link_model.specs.Module.{IsLinked, LinkedImage, linked_image};
+
+    ghost Value = { LinkedImage };
+
+    ghost coded = { Prim.hlevel (codes, expr.the_row.coded) };
+
+    ghost view = { λ l. linked_image l.path l.base l.pages l.bytes l.footprint };
+
+    ghost invariant = { λ l. IsLinked (linked_image l.path l.base l.pages l.bytes l.footprint) };
+}
+
+impl Linked {
+    /// The path.
+    pub fn path(&self) -> &PathName
+        ensures path { result.now ≡ self.now.path }
+        ensures linked { IsLinked self.now }
+    {
+        &self.path
+    }
+
+    /// The address at which it stands.
+    pub fn base(&self) -> u64
+        ensures base { result ≡ self.now.base }
+        ensures linked { IsLinked self.now }
+    {
+        self.base
+    }
+
+    /// How many pages of 4,096 bytes it takes from there on, at least one.
+    pub fn pages(&self) -> u32
+        ensures pages { result ≡ self.now.pages }
+        ensures linked { IsLinked self.now }
+    {
+        self.pages
+    }
+
+    /// The file: a static executable.
+    pub fn bytes(&self) -> &[u8]
+        ensures bytes { result.now ≡ self.now.bytes }
+        ensures linked { IsLinked self.now }
+    {
+        self.bytes.as_slice()
+    }
+
+    /// The distinct paths that were read, in order of first reading, with their stamps and entries.
+    pub fn footprint(&self) -> &[Stamped]
+        ensures footprint { result.now ≡ self.now.footprint }
+        ensures linked { IsLinked self.now }
+    {
+        self.footprint.as_slice()
+    }
+}
