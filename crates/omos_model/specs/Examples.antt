@@ -155,8 +155,8 @@ pub record OperatorExamples : Type 0 where
   pub third : refusal (Apply (Freeze grab) (More (Merge (Path lib) (Path user)) (Path new)))
       ≡ Some (refused.Conflict (site_of made 1) malloc)
   pub nodes_after : refusal (
-    Override (More (Merge (Path lib) (Path user)) (Path ab)) (Apply (Hide zip) (Path new))
-  )
+      Override (More (Merge (Path lib) (Path user)) (Path ab)) (Apply (Hide zip) (Path new))
+      )
       ≡ Some (refused.NoDefinition (site_of made 5) zip)
   -- the call follows the definition that wins, unless it was bound before
   pub override : lands (Override (Path lib) (Path new)) 0 ≡ Some (On (Inside 1 0 0))
@@ -266,8 +266,8 @@ pub record ExpansionExamples : Type 0 where
       ≡ Some (refused.TooDeep (site_of (link 32) 0) (link 33))
   -- a path that is too deep in one place isn't in another
   pub deep_first : error (
-    expansion_by (with (chain 32 ++ (x, Blueprint (Override (Path (link 2)) (Path (link 1)))) ∷ [])) x
-  )
+      expansion_by (with (chain 32 ++ (x, Blueprint (Override (Path (link 2)) (Path (link 1)))) ∷ [])) x
+      )
       ≡ Some (refused.TooDeep (site_of (link 31) 0) (link 32))
   -- 256 leaves, and 257
   pub leaves_256 : leaf_count (expansion_by (with doubled) (twice 7)) ≡ 256
