@@ -14,6 +14,7 @@ IsNameByte byte =
 abbrev pub IsNameLength : ℕ → Type 0
 IsNameLength count = (1 ≤ count) × (count ≤ 1024)
 
+-- a name: so many bytes, and only such as a name may have
 abbrev pub IsSymName : List ℕ → Type 0
 IsSymName bytes = IsNameLength (length bytes) × All IsNameByte bytes
 

@@ -1,4 +1,4 @@
-//! How much a store may hold.
+//! How much a store may hold. Nothing here counts what it holds.
 
 ghost use Rattle.std.specs.Prelude.{◌≡◌, ◌≤◌, SomeIff};
 ghost use Rattle.omos_base.specs.Limits.{AreLimits};

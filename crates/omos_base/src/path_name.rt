@@ -1,4 +1,8 @@
 //! The paths of entries.
+//!
+//! A path is `/` followed by 1 to 16 parts joined by `/`, at most 255 bytes in all. A part has 1
+//! to 64 bytes of ASCII letters, digits, `.`, `_`, `+` and `-`; `.` and `..` are parts like any
+//! other. Nothing here knows what a path leads to.
 
 ghost use Rattle.std.specs.Prelude.{◌≡◌, ◌↔◌, ◌≤◌, ℕ, length, IsTrue, refl, nat_eq};
 ghost use Rattle.std.specs.Prelude.{MatchOption, MatchResult};
@@ -24,7 +28,7 @@ pub enum PathFault {
     Long,
     /// The bytes up to and with the one at this place, counted from 0, begin no path, and no
     /// earlier byte does that; or this is their length, where they begin a path and are none.
-    #[error("no path goes on at byte {0}")]
+    #[error("the path is ill-formed at byte {0}")]
     Shape(u32),
 }
 
@@ -71,7 +75,7 @@ fn shape_fault(bytes: &[u8]) -> Option<u32>
     for place in 1..bytes.len() {
         let byte = bytes[place];
         if byte == b'/' {
-            // A part stands before it, and one more fits, of a byte at least.
+            // It ends a part, and begins one more, of which a byte at least must still fit.
             if size == 0 || parts == 16 || place == 254 {
                 return Some(place as u32);
             }
@@ -91,8 +95,8 @@ fn shape_fault(bytes: &[u8]) -> Option<u32>
     }
 }
 
-/// The bytes, held inline.
-fn held(bytes: &[u8]) -> ArrayVec<u8, 255>
+/// The bytes as an array.
+fn array_of(bytes: &[u8]) -> ArrayVec<u8, 255>
     requires { length bytes.now ≤ 255 }
     ensures { result.items ≡ bytes.now }
 {
@@ -113,7 +117,9 @@ impl PathName {
         if let Some(place) = shape_fault(bytes) {
             return Err(PathFault::Shape(place));
         }
-        Ok(PathName { bytes: held(bytes) })
+        Ok(PathName {
+            bytes: array_of(bytes),
+        })
     }
 
     /// The same path once more.
@@ -121,7 +127,7 @@ impl PathName {
         ensures { result ≡ self.now }
     {
         PathName {
-            bytes: held(self.bytes.as_slice()),
+            bytes: array_of(self.bytes.as_slice()),
         }
     }
 

@@ -1,4 +1,4 @@
-//! A value with several owners.
+//! A value with several owners, which none of them can change.
 
 ghost use Rattle.std.specs.Prelude.{◌≡◌, IfOk};
 
@@ -7,7 +7,7 @@ use std::alloc::Global;
 use std::marker::Model;
 use std::sync::Arc;
 
-/// A value with several owners, that contracts see as the value. No owner can change it.
+/// A value with several owners, that contracts see as the value.
 #[derive(Debug, Drop)]
 pub struct Shared<T> {
     inner: Arc<T>,
@@ -33,7 +33,7 @@ impl<T: Drop> Shared<T> {
 
     /// A second owner of the same value, which is not copied.
     ///
-    /// Nothing grows; a count of owners that is at its end is answered as want of memory.
+    /// Nothing grows, but std may refuse a further owner, which is answered as want of memory.
     pub fn twin(&self) -> Result<Shared<T>, NoMemory>
         ensures { IfOk result (λ twin. twin ≡ self.now) }
     {

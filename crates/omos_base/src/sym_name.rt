@@ -1,4 +1,7 @@
 //! The names of symbols.
+//!
+//! A name has 1 to 1,024 bytes, each 0x21 to 0x7E or 0x80 to 0xFF and none of `(`, `)`, `"` and
+//! `;`. Nothing here knows what a name stands for.
 
 ghost use Rattle.std.specs.Prelude.{◌≡◌, ◌↔◌, ℕ, IsTrue, IfOk, MatchOption, All, refl, nat_eq};
 ghost use Rattle.std.proofs.Common.{rules};
@@ -26,7 +29,7 @@ pub enum NameFault {
     #[error("a name has 1 to 1,024 bytes")]
     Length,
     /// The byte at this place, counted from 0, is the first that a name may not have.
-    #[error("the byte at {0} may not stand in a name")]
+    #[error("the byte at place {0} may not stand in a name")]
     Byte(u32),
 }
 
