@@ -131,4 +131,5 @@ abbrev pub FootprintLaw : Type 0
 FootprintLaw =
     (ns : Space) (path : Name) (t : Term) (v : Visit) (entries : List Stamped)
     → expansion ns path ≡ Ok (t, v) → footprint ns path ≡ Some entries
-    → (map (λ s. s.path) entries ≡ v.read) × (slice_get v.read 0 ≡ Some path) × IsDistinct same_name v.read
+    → (map (λ s. s.path) entries ≡ v.read) × (slice_get v.read 0 ≡ Some path)
+    × IsDistinct same_name v.read
