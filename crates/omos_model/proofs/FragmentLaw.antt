@@ -1,10 +1,10 @@
 -- What a file without a fault holds is a fragment.
 use Rattle.std.proofs.Common.{◌≡◌, ℕ, zero, suc, ◌+◌, ◌-◌, ◌/◌, ◌<◌, ◌≤◌, ◌==◌, Bool, true, false}
-use Rattle.std.proofs.Common.{not, ◌&&◌, ◌||◌, List, [], ◌∷◌, length, Option, Some, None, refl, sym}
+use Rattle.std.proofs.Common.{not, ◌&&◌, ◌||◌, List, ◌∷◌, length, Option, Some, None, refl, sym}
 use Rattle.std.proofs.Common.{ap, ◌∙◌, subst, cond, map, arith, IfOk}
-use Rattle.std.specs.Prelude.{nat_le, nat_lt, slice_get, filter, Result, Ok, Err}
-use Rattle.std.specs.List.{list_all, list_any, filter_map, sum_by}
-use Rattle.std.specs.Option.{option_map, option_map_or}
+use Rattle.std.specs.Prelude.{nat_le, nat_lt, filter}
+use Rattle.std.specs.List.{list_all, list_any, filter_map}
+use Rattle.std.specs.Option.{option_map}
 use Rattle.std.proofs.lemmas.Bool.{and_parts, and_from, and_right, or_from, not-true, not-false}
 use Rattle.std.proofs.lemmas.Bool.{not_from_false, leb-true, ltb-true, le-leb, lt-ltb, eqb-true}
 use Rattle.std.proofs.lemmas.Bool.{eqb-false, and_left, or_parts, not_from_true, false_from_ne_true}
@@ -12,37 +12,35 @@ use Rattle.std.proofs.lemmas.Bool.{true≢false}
 use Rattle.std.proofs.lemmas.Option.{none-some}
 use Rattle.std.proofs.lemmas.List.Folds.{list_all-map}
 use Rattle.omos_model.specs.Names.{Name, same_name}
-use Rattle.omos_model.specs.FragmentParts.{FragmentParts, IsFragment, is_fragment, is_spot}
+use Rattle.omos_model.specs.FragmentParts.{IsFragment, is_fragment, is_spot}
 use Rattle.omos_model.specs.FragmentParts.{is_fixup, is_field, is_aim, is_zeros, is_exported}
 use Rattle.omos_model.specs.FragmentParts.{are_distinct, width}
 use Rattle.omos_model.specs.Numbers.{numbers_from}
 use Rattle.omos_model.specs.ElfFields.{e_shnum, sh_type, sh_size, sh_info, has_flag, is_section}
-use Rattle.omos_model.specs.ElfFields.{sections, is_symtab, symbols, symbol_count, st_shndx}
+use Rattle.omos_model.specs.ElfFields.{sections, symbols, symbol_count, st_shndx}
 use Rattle.omos_model.specs.ElfFields.{st_value, binding, name_of, r_addend, r_offset, r_sym}
 use Rattle.omos_model.specs.ElfFields.{r_type}
 use Rattle.omos_model.specs.ElfFaults.{is_kept, is_nobits, abs, common, undef, is_local, has_name}
-use Rattle.omos_model.specs.ElfFaults.{is_export, is_of_dropped, is_again, is_used_rela}
+use Rattle.omos_model.specs.ElfFaults.{is_export, is_of_dropped, is_used_rela}
 use Rattle.omos_model.specs.ElfFaults.{entry_count, entries_up_to, is_right_rela, kind_of, entries}
 use Rattle.omos_model.specs.ElfFaults.{is_in_target, is_aim_of, is_wrong_entry, object_fault}
-use Rattle.omos_model.specs.FragmentOf.{group_of, piece_of_section, is_common, pieces_of}
+use Rattle.omos_model.specs.FragmentOf.{group_of, is_common, pieces_of}
 use Rattle.omos_model.specs.FragmentOf.{section_piece, common_piece, spot_of, exports_of, aim_of}
 use Rattle.omos_model.specs.FragmentOf.{fixup_of, parts_of_file, unless_fault, fragment_of}
 use Rattle.omos_model.specs.Laws.{FragmentLaw}
-use Rattle.omos_model.specs.declared.fragment.Aim.{Aim}
 use Rattle.omos_model.specs.declared.fragment.Aim.TheVariants as aim
 use Rattle.omos_model.specs.declared.fragment.Export.{Export}
 use Rattle.omos_model.specs.declared.fragment.Fixup.{Fixup}
 use Rattle.omos_model.specs.declared.fragment.Kind.{Kind}
-use Rattle.omos_model.specs.declared.fragment.Spot.{Spot}
 use Rattle.omos_model.specs.declared.fragment.Spot.TheVariants.{Inside, Fixed}
 use Rattle.omos_model.specs.declared.refusal.ObjectFault.{ObjectFault}
 use Rattle.omos_model.proofs.Names.{same_name-swap}
 use Rattle.omos_model.proofs.Ranges.{InRange, rest_in, first_in, any_none, all_filtered}
-use Rattle.omos_model.proofs.Ranges.{length_filtered, length-map, total_bound, pairs, length-pairs}
+use Rattle.omos_model.proofs.Ranges.{length_filtered, length-map, total_bound, length-pairs}
 use Rattle.omos_model.proofs.Ranges.{all_pairs, all_both, length-filter_map, all_made}
 use Rattle.omos_model.proofs.RightFile.{RightFile, RightSymbol, IsSectionNumber, IsSymbolNumber}
 use Rattle.omos_model.proofs.RightFile.{right_file, right_symbol}
-use Rattle.omos_model.proofs.Pieces.{section_number, kept_section, loaded, are_pieces, few_pieces}
+use Rattle.omos_model.proofs.Pieces.{section_number, loaded, are_pieces, few_pieces}
 use Rattle.omos_model.proofs.Pieces.{section_there, common_there}
 
 -- ---- tests
@@ -61,7 +59,8 @@ second false b h e = cc
 
 -- ---- spots
 
-last_of : (a b c d : Bool) → (a || b || c || d) ≡ true → a ≡ false → b ≡ false → c ≡ false → d ≡ true
+last_of : (a b c d : Bool) → (a || b || c || d) ≡ true → a ≡ false → b ≡ false → c ≡ false
+    → d ≡ true
 last_of false false false d h x y z = h
 last_of true b c d h x y z = absurd (true≢false x)
 last_of false true c d h x y z = absurd (true≢false y)
@@ -79,13 +78,14 @@ right_spot file right k within defined kept = go (st_shndx file k == abs) refl
     symbol : RightSymbol file k
     symbol = right_symbol file right k within
 
-    in_section : (n == abs) ≡ false → is_common file k ≡ false → is_spot (pieces_of file) (Inside (section_piece file n) (st_value file k)) ≡ true
+    in_section : (n == abs) ≡ false → is_common file k ≡ false
+        → is_spot (pieces_of file) (Inside (section_piece file n) (st_value file k)) ≡ true
     in_section a c =
         let there : is_section file n ≡ true =
-          last_of (not (is_local file k) && (n == undef)) (n == abs) _ (is_section file n) symbol.index defined a (and_right _ (n == common) c) in
+        last_of (not (is_local file k) && (n == undef)) (n == abs) _ (is_section file n) symbol.index defined a (and_right _ (n == common) c) in
         let loads : is_kept file n ≡ true = and_not (is_section file n) (is_kept file n) kept there in
         let small : nat_le (st_value file k) (sh_size file n) ≡ true =
-          or_not (is_kept file n) _ (and_parts (not (is_kept file n) || nat_le (st_value file k) (sh_size file n)) (not (has_name file k && is_of_dropped file k)) symbol.value).0 loads in
+        or_not (is_kept file n) _ (and_parts (not (is_kept file n) || nat_le (st_value file k) (sh_size file n)) (not (has_name file k && is_of_dropped file k)) symbol.value).0 loads in
         rw (section_there file n loads) small
 
     section_or_common : (b : Bool) → is_common file k ≡ b → (n == abs) ≡ false
@@ -93,7 +93,8 @@ right_spot file right k within defined kept = go (st_shndx file k == abs) refl
     section_or_common true c a = rw (common_there file k within c) (le-leb 0 _ (omega arith))
     section_or_common false c a = in_section a c
 
-    go : (b : Bool) → (n == abs) ≡ b → is_spot (pieces_of file) (cond b (Fixed (st_value file k)) (cond (is_common file k) (Inside (common_piece file k) 0) (Inside (section_piece file n) (st_value file k)))) ≡ true
+    go : (b : Bool) → (n == abs) ≡ b
+        → is_spot (pieces_of file) (cond b (Fixed (st_value file k)) (cond (is_common file k) (Inside (common_piece file k) 0) (Inside (section_piece file n) (st_value file k)))) ≡ true
     go true a = refl
     go false a = section_or_common (is_common file k) refl a
 
@@ -102,28 +103,33 @@ right_spot file right k within defined kept = go (st_shndx file k == abs) refl
 export_of : List ℕ → ℕ → Export
 export_of file k = record { name = name_of file k; spot = spot_of file k }
 
-right_export : (file : List ℕ) → RightFile file → (k : ℕ) → IsSymbolNumber file k → is_export file k ≡ true → is_spot (pieces_of file) (spot_of file k) ≡ true
+right_export : (file : List ℕ) → RightFile file → (k : ℕ) → IsSymbolNumber file k
+    → is_export file k ≡ true → is_spot (pieces_of file) (spot_of file k) ≡ true
 right_export file right k within h =
     let parts = and_parts (has_name file k) (not (st_shndx file k == undef)) h in
     let value = (right_symbol file right k within).value in
     let fine = (and_parts (not (is_kept file (st_shndx file k)) || nat_le (st_value file k) (sh_size file (st_shndx file k))) (not (has_name file k && is_of_dropped file k)) value).1 in
     right_spot file right k within (and_right _ _ (not-true (st_shndx file k == undef) parts.1)) (second (has_name file k) (is_of_dropped file k) (not-true (has_name file k && is_of_dropped file k) fine) parts.0)
 
-right_exports : (file : List ℕ) → RightFile file → list_all (λ x. is_spot (pieces_of file) x.spot) (exports_of file) ≡ true
+right_exports : (file : List ℕ) → RightFile file
+    → list_all (λ x. is_spot (pieces_of file) x.spot) (exports_of file) ≡ true
 right_exports file right =
     list_all-map _ _ (filter (is_export file) (symbols file))
     ∙ all_filtered (is_export file) (λ k. is_spot (pieces_of file) (spot_of file k)) 1 (symbol_count file - 1) (right_export file right)
 
 -- no export of the run has the name n
-not_among : (file : List ℕ) (n : Name) (s c : ℕ) → ((k : ℕ) → InRange s c k → is_export file k ≡ true → same_name n (name_of file k) ≡ false)
+not_among : (file : List ℕ) (n : Name) (s c : ℕ)
+    → ((k : ℕ) → InRange s c k → is_export file k ≡ true → same_name n (name_of file k) ≡ false)
     → is_exported (map (λ k. record { name = name_of file k; spot = spot_of file k }) (filter (is_export file) (numbers_from s c))) n ≡ false
 not_among file n s zero h = refl
-not_among file n s (suc c) h = go (is_export file s) refl (not_among file n (s + 1) c (λ k r. h k (rest_in s c k r)))
+not_among file n s (suc c) h =
+    go (is_export file s) refl (not_among file n (s + 1) c (λ k r. h k (rest_in s c k r)))
   where
     rest : List ℕ
     rest = filter (is_export file) (numbers_from (s + 1) c)
 
-    go : (b : Bool) → is_export file s ≡ b → is_exported (map (λ k. record { name = name_of file k; spot = spot_of file k }) rest) n ≡ false
+    go : (b : Bool) → is_export file s ≡ b
+        → is_exported (map (λ k. record { name = name_of file k; spot = spot_of file k }) rest) n ≡ false
         → is_exported (map (λ k. record { name = name_of file k; spot = spot_of file k }) (cond b (s ∷ rest) rest)) n ≡ false
     go true e i = or_from _ _ (h s (first_in s c) e) i
     go false e i = i
@@ -132,17 +138,20 @@ distinct_from : (file : List ℕ) (s c : ℕ)
     → ((j k : ℕ) → InRange s c j → InRange s c k → j < k → is_export file j ≡ true → is_export file k ≡ true → same_name (name_of file k) (name_of file j) ≡ false)
     → are_distinct (map (λ k. record { name = name_of file k; spot = spot_of file k }) (filter (is_export file) (numbers_from s c))) ≡ true
 distinct_from file s zero h = refl
-distinct_from file s (suc c) h = go (is_export file s) refl (distinct_from file (s + 1) c (λ j k a b. h j k (rest_in s c j a) (rest_in s c k b)))
+distinct_from file s (suc c) h =
+    go (is_export file s) refl (distinct_from file (s + 1) c (λ j k a b. h j k (rest_in s c j a) (rest_in s c k b)))
   where
     rest : List ℕ
     rest = filter (is_export file) (numbers_from (s + 1) c)
 
-    go : (b : Bool) → is_export file s ≡ b → are_distinct (map (λ k. record { name = name_of file k; spot = spot_of file k }) rest) ≡ true
+    go : (b : Bool) → is_export file s ≡ b
+        → are_distinct (map (λ k. record { name = name_of file k; spot = spot_of file k }) rest) ≡ true
         → are_distinct (map (λ k. record { name = name_of file k; spot = spot_of file k }) (cond b (s ∷ rest) rest)) ≡ true
     go true e i =
         and_from _ _
         (not_from_false _ (not_among file (name_of file s) (s + 1) c (
-          λ k r x. same_name-swap (name_of file s) (name_of file k) ∙ h s k (first_in s c) (rest_in s c k r) (omega (arith, r.low)) e x
+        λ k r x. same_name-swap (name_of file s) (name_of file k)
+        ∙ h s k (first_in s c) (rest_in s c k r) (omega (arith, r.low)) e x
         )))
         i
     go false e i = i
@@ -150,16 +159,17 @@ distinct_from file s (suc c) h = go (is_export file s) refl (distinct_from file 
 distinct_exports : (file : List ℕ) → RightFile file → are_distinct (exports_of file) ≡ true
 distinct_exports file right =
     distinct_from file 1 (symbol_count file - 1) (
-      λ j k a b below x y.
-          let below_k : InRange 1 (k - 1) j = record { low = a.low; high = omega (arith, a.low, below) } in
-          let none = second (is_export file k) (list_any (λ i. is_export file i && same_name (name_of file k) (name_of file i)) (numbers_from 1 (k - 1))) (right.names k b) y in
-          second (is_export file j) (same_name (name_of file k) (name_of file j))
-          (any_none (λ i. is_export file i && same_name (name_of file k) (name_of file i)) 1 (k - 1) none j below_k) x
+    λ j k a b below x y.
+    let below_k : InRange 1 (k - 1) j = record { low = a.low; high = omega (arith, a.low, below) } in
+    let none = second (is_export file k) (list_any (λ i. is_export file i && same_name (name_of file k) (name_of file i)) (numbers_from 1 (k - 1))) (right.names k b) y in
+    second (is_export file j) (same_name (name_of file k) (name_of file j))
+    (any_none (λ i. is_export file i && same_name (name_of file k) (name_of file i)) 1 (k - 1) none j below_k) x
     )
 
 -- ---- fixups
 
-right_rela : (file : List ℕ) → RightFile file → (i : ℕ) → IsSectionNumber file i → is_used_rela file i ≡ true → is_right_rela file i ≡ true
+right_rela : (file : List ℕ) → RightFile file → (i : ℕ) → IsSectionNumber file i
+    → is_used_rela file i ≡ true → is_right_rela file i ≡ true
 right_rela file right i within h =
     let is_rela = (and_parts (sh_type file i == 4) (is_kept file (sh_info file i)) h).0 in
     let fine = second (sh_type file i == 4) (not (nat_lt (sh_info file i) (e_shnum file)) || (is_used_rela file i && not (is_right_rela file i))) (right.relas i within) is_rela in
@@ -177,13 +187,14 @@ inside file e = is_section file e.0 && is_used_rela file e.0 && nat_lt e.1 (entr
 all_inside : (file : List ℕ) → list_all (inside file) (entries file) ≡ true
 all_inside file =
     all_pairs (is_used_rela file) (entry_count file) (inside file) 1 (e_shnum file - 1) (
-      λ i j within h below.
-          and_from _ _
-          (and_from _ _ (and_from _ _ (lt-ltb 0 i (omega (arith, within.low))) (lt-ltb i (e_shnum file) (omega (arith, within.low, within.high)))) h)
-          (lt-ltb j (entry_count file i) below)
+    λ i j within h below.
+    and_from _ _
+    (and_from _ _ (and_from _ _ (lt-ltb 0 i (omega (arith, within.low))) (lt-ltb i (e_shnum file) (omega (arith, within.low, within.high)))) h)
+    (lt-ltb j (entry_count file i) below)
     )
 
-right_fixup : (file : List ℕ) → RightFile file → (e : ℕ × ℕ) (y : Fixup) → (not (is_wrong_entry file e) && inside file e) ≡ true → fixup_of file e ≡ Some y
+right_fixup : (file : List ℕ) → RightFile file → (e : ℕ × ℕ) (y : Fixup)
+    → (not (is_wrong_entry file e) && inside file e) ≡ true → fixup_of file e ≡ Some y
     → is_fixup (pieces_of file) y ≡ true
 right_fixup file right e y h is = go (kind_of (r_type file e.0 e.1)) refl is
   where
@@ -249,17 +260,18 @@ right_fixup file right e y h is = go (kind_of (r_type file e.0 e.1)) refl is
     go None d s = cc
     go (Some kind) d s =
         let known : (r_type file i j == 0) ≡ false =
-          false_from_ne_true (r_type file i j == 0) (λ z. none-some kind (sym (ap kind_of (eqb-true (r_type file i j) 0 z)) ∙ d)) in
+        false_from_ne_true (r_type file i j == 0) (λ z. none-some kind (sym (ap kind_of (eqb-true (r_type file i j) 0 z)) ∙ d)) in
         let fine = and_parts (is_in_target file i j) (is_aim_of file k)
-          (and_not (not (r_type file i j == 0)) (is_in_target file i j && is_aim_of file k) (not-true (is_wrong_entry file e) parts.0) (not_from_false (r_type file i j == 0) known)) in
+        (and_not (not (r_type file i j == 0)) (is_in_target file i j && is_aim_of file k) (not-true (is_wrong_entry file e) parts.0) (not_from_false (r_type file i j == 0) known)) in
         let same : record { piece = section_piece file target; offset = r_offset file i j; kind = kind; addend = r_addend file i j; aim = aim_of file k } ≡ y = cc in
         let fits : nat_le (r_offset file i j + width kind) (sh_size file target) ≡ true = rw d at fine.0 in
         subst (λ z. is_fixup (pieces_of file) z ≡ true) same
         (and_from (is_field (pieces_of file) (section_piece file target) (r_offset file i j) (width kind)) (is_aim (pieces_of file) (aim_of file k))
-          (rw (section_there file target loads) (and_from (not (is_zeros (group_of file target))) _ (rw (has_bytes, loaded (has_flag file target 4) (has_flag file target 1)) refl) fits))
-          (aims fine.1))
+        (rw (section_there file target loads) (and_from (not (is_zeros (group_of file target))) _ (rw (has_bytes, loaded (has_flag file target 4) (has_flag file target 1)) refl) fits))
+        (aims fine.1))
 
-right_fixups : (file : List ℕ) → RightFile file → list_all (is_fixup (pieces_of file)) (filter_map (fixup_of file) (entries file)) ≡ true
+right_fixups : (file : List ℕ) → RightFile file
+    → list_all (is_fixup (pieces_of file)) (filter_map (fixup_of file) (entries file)) ≡ true
 right_fixups file right =
     all_made (fixup_of file) (λ e. not (is_wrong_entry file e) && inside file e) (is_fixup (pieces_of file)) (entries file) (right_fixup file right)
     (all_both (λ e. not (is_wrong_entry file e)) (inside file) (entries file) right.entries (all_inside file))
@@ -269,31 +281,34 @@ right_fixups file right =
 few_exports : (file : List ℕ) → RightFile file → length (exports_of file) ≤ 65535
 few_exports file right =
     let same : length (exports_of file) ≡ length (filter (is_export file) (symbols file)) =
-      length-map (λ k. record { name = name_of file k; spot = spot_of file k }) (filter (is_export file) (symbols file)) in
+    length-map (λ k. record { name = name_of file k; spot = spot_of file k }) (filter (is_export file) (symbols file)) in
     let few : length (filter (is_export file) (symbols file)) ≤ symbol_count file - 1 = length_filtered (is_export file) 1 (symbol_count file - 1) in
     omega (arith, right.few_symbols)
 
-few_fixups : (file : List ℕ) → RightFile file → length (filter_map (fixup_of file) (entries file)) ≤ 65535
-few_fixups file right = omega (arith, length-filter_map (fixup_of file) (entries file), few_entries file right)
+few_fixups : (file : List ℕ) → RightFile file
+    → length (filter_map (fixup_of file) (entries file)) ≤ 65535
+few_fixups file right =
+    omega (arith, length-filter_map (fixup_of file) (entries file), few_entries file right)
 
 right_parts : (file : List ℕ) → RightFile file → is_fragment (parts_of_file file) ≡ true
 right_parts file right =
     and_from _ _
     (and_from _ _
-      (and_from _ _
-        (and_from _ _
-          (and_from _ _
-            (and_from _ _ (le-leb (length (pieces_of file)) 69631 (few_pieces file right)) (le-leb (length (exports_of file)) 65535 (few_exports file right)))
-            (le-leb (length (filter_map (fixup_of file) (entries file))) 65535 (few_fixups file right)))
-          (are_pieces file right))
-        (right_exports file right))
-      (right_fixups file right))
+    (and_from _ _
+    (and_from _ _
+    (and_from _ _
+    (and_from _ _ (le-leb (length (pieces_of file)) 69631 (few_pieces file right)) (le-leb (length (exports_of file)) 65535 (few_exports file right)))
+    (le-leb (length (filter_map (fixup_of file) (entries file))) 65535 (few_fixups file right)))
+    (are_pieces file right))
+    (right_exports file right))
+    (right_fixups file right))
     (distinct_exports file right)
 
 pub fragment_law : FragmentLaw
 unfolding fragment_of
 fragment_law file = go (object_fault file) refl
   where
-    go : (o : Option ObjectFault) → object_fault file ≡ o → IfOk (unless_fault o (parts_of_file file)) IsFragment
+    go : (o : Option ObjectFault) → object_fault file ≡ o
+        → IfOk (unless_fault o (parts_of_file file)) IsFragment
     go None e = right_parts file (right_file file e)
     go (Some x) e = tt

@@ -48,11 +48,13 @@ takes : (test : Name → Bool) (o : Option Name) (x : Name) → test x ≡ true 
 takes test None x h = rw h (itself x)
 takes test (Some m) x h = go (is_lt (name_cmp x m)) refl
   where
-    go : (b : Bool) → is_lt (name_cmp x m) ≡ b → UpTo (cond (test x && is_lt (name_cmp x m)) (Some x) (Some m)) x
+    go : (b : Bool) → is_lt (name_cmp x m) ≡ b
+        → UpTo (cond (test x && is_lt (name_cmp x m)) (Some x) (Some m)) x
     go true e = rw (h, e) (itself x)
     go false e = rw (h, e) (not_lt-not_gt x m e)
 
-passes : (test : Name → Bool) (o : Option Name) (x : Name) → Passes test o → Passes test (lesser test o x)
+passes : (test : Name → Bool) (o : Option Name) (x : Name) → Passes test o
+    → Passes test (lesser test o x)
 passes test None x h = go (test x) refl
   where
     go : (b : Bool) → test x ≡ b → Passes test (cond b (Some x) None)
@@ -64,31 +66,40 @@ passes test (Some m) x h = go (test x && is_lt (name_cmp x m)) refl
     go true e = (and_parts _ _ e).0
     go false e = h
 
-keeps_all : (test : Name → Bool) (o : Option Name) (xs : List Name) (n : Name) → UpTo o n → UpTo (fold (lesser test) o xs) n
+keeps_all : (test : Name → Bool) (o : Option Name) (xs : List Name) (n : Name) → UpTo o n
+    → UpTo (fold (lesser test) o xs) n
 keeps_all test o [] n h = h
 keeps_all test o (x ∷ xs) n h = keeps_all test (lesser test o x) xs n (keeps test o x n h)
 
-passes_all : (test : Name → Bool) (o : Option Name) (xs : List Name) → Passes test o → Passes test (fold (lesser test) o xs)
+passes_all : (test : Name → Bool) (o : Option Name) (xs : List Name) → Passes test o
+    → Passes test (fold (lesser test) o xs)
 passes_all test o [] h = h
 passes_all test o (x ∷ xs) h = passes_all test (lesser test o x) xs (passes test o x h)
 
-takes_all : (test : Name → Bool) (o : Option Name) (xs : List Name) (n : Name) → is_among xs n ≡ true → test n ≡ true → UpTo (fold (lesser test) o xs) n
+takes_all : (test : Name → Bool) (o : Option Name) (xs : List Name) (n : Name)
+    → is_among xs n ≡ true → test n ≡ true → UpTo (fold (lesser test) o xs) n
 takes_all test o [] n a h = cc
-takes_all test o (x ∷ xs) n a h = go (same_name n x) refl (λ b. takes_all test (lesser test o x) xs n b h)
+takes_all test o (x ∷ xs) n a h =
+    go (same_name n x) refl (λ b. takes_all test (lesser test o x) xs n b h)
   where
-    go : (b : Bool) → same_name n x ≡ b → (is_among xs n ≡ true → UpTo (fold (lesser test) (lesser test o x) xs) n) → UpTo (fold (lesser test) (lesser test o x) xs) n
+    go : (b : Bool) → same_name n x ≡ b
+        → (is_among xs n ≡ true → UpTo (fold (lesser test) (lesser test o x) xs) n)
+        → UpTo (fold (lesser test) (lesser test o x) xs) n
     go true e k = keeps_all test (lesser test o x) xs n (subst (λ m. UpTo (lesser test o x) m) (sym (same_name-true n x e)) (takes test o x (subst (λ m. test m ≡ true) (same_name-true n x e) h)))
     go false e k = k (rw e at a)
 
 -- where each name that passes is in the list, the least of the list is the least of all
-pub least-IsLeast : (test : Name → Bool) (xs : List Name) → ((n : Name) → test n ≡ true → is_among xs n ≡ true) → IsLeast test (least test xs)
-least-IsLeast test xs all = go (least test xs) (passes_all test None xs tt) (λ n h. takes_all test None xs n (all n h) h)
+pub least-IsLeast : (test : Name → Bool) (xs : List Name)
+    → ((n : Name) → test n ≡ true → is_among xs n ≡ true) → IsLeast test (least test xs)
+least-IsLeast test xs all =
+    go (least test xs) (passes_all test None xs tt) (λ n h. takes_all test None xs n (all n h) h)
   where
     no : (n : Name) (b : Bool) → test n ≡ b → ((test n ≡ true) → ⊥) → test n ≡ false
     no n true e k = absurd (k e)
     no n false e k = e
 
-    go : (o : Option Name) → Passes test o → ((n : Name) → test n ≡ true → UpTo o n) → IsLeast test o
+    go : (o : Option Name) → Passes test o → ((n : Name) → test n ≡ true → UpTo o n)
+        → IsLeast test o
     go None p k = λ n. no n (test n) refl (k n)
     go (Some m) p k = (p, k)
 
@@ -98,7 +109,8 @@ same_from Equal h k = refl
 same_from Greater h k = cc
 
 -- there is one
-pub IsLeast-unique : (test : Name → Bool) (o p : Option Name) → IsLeast test o → IsLeast test p → o ≡ p
+pub IsLeast-unique : (test : Name → Bool) (o p : Option Name) → IsLeast test o → IsLeast test p
+    → o ≡ p
 IsLeast-unique test None None h k = refl
 IsLeast-unique test None (Some m) h k = absurd (true≢false (sym k.0 ∙ h m))
 IsLeast-unique test (Some m) None h k = absurd (true≢false (sym h.0 ∙ k m))

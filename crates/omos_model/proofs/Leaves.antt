@@ -1,6 +1,6 @@
 -- The leaves of an expansion are numbered from where its visit begins.
-use Rattle.std.proofs.Common.{◌≡◌, ℕ, zero, suc, ◌+◌, Bool, true, false, List, [], ◌∷◌, ◌++◌}
-use Rattle.std.proofs.Common.{Option, Some, Ok, Err, refl, sym, ap, ◌∙◌, subst, cond, arith}
+use Rattle.std.proofs.Common.{◌≡◌, ℕ, zero, suc, ◌+◌, Bool, true, false, [], ◌∷◌, ◌++◌}
+use Rattle.std.proofs.Common.{Some, refl, sym, ap, ◌∙◌, subst, cond, arith}
 use Rattle.omos_model.specs.Names.{Name}
 use Rattle.omos_model.specs.Laws.{LeavesLaw}
 use Rattle.omos_model.specs.NameLists.{is_among}
@@ -25,7 +25,7 @@ numbers_from-add start (suc a) b =
     let f : start + 1 + a ≡ start + suc a = omega arith in
     ap (numbers_from start) e
     ∙ ap (λ ns. start ∷ ns)
-      (numbers_from-add (start + 1) a b ∙ ap (λ n. numbers_from (start + 1) a ++ numbers_from n b) f)
+    (numbers_from-add (start + 1) a b ∙ ap (λ n. numbers_from (start + 1) a ++ numbers_from n b) f)
 
 -- the leaves of two parts, one after the other
 two_parts : (v w x : Visit) (t u : Term) → Numbered v t w → Numbered w u x
@@ -34,8 +34,8 @@ two_parts v w x t u h k = (
   h.0 + k.0,
   k.1 ∙ ap (λ n. n + k.0) h.1 ∙ omega arith,
   ap (λ ns. ns ++ leaf_numbers u) h.2
-  ∙ ap (λ ns. numbers_from v.leaves h.0 ++ ns) (k.2 ∙ ap (λ n. numbers_from n k.0) h.1)
-  ∙ sym (numbers_from-add v.leaves h.0 k.0),
+      ∙ ap (λ ns. numbers_from v.leaves h.0 ++ ns) (k.2 ∙ ap (λ n. numbers_from n k.0) h.1)
+      ∙ sym (numbers_from-add v.leaves h.0 k.0),
 )
 
 numbered : Lasts Numbered
@@ -58,6 +58,6 @@ add_read-leaves p v = go (is_among v.read p)
 pub leaves_law : LeavesLaw
 leaves_law ns path t v is =
     let reads = λ (p : Name) (s : Source) (e : source ns p ≡ Some s) (a w : Visit) (u : Term) (h : Numbered (add_read p a) u w).
-      subst (λ n. (count : ℕ) × (w.leaves ≡ n + count) × (leaf_numbers u ≡ numbers_from n count)) (add_read-leaves p a) h in
+    subst (λ n. (count : ℕ) × (w.leaves ≡ n + count) × (leaf_numbers u ≡ numbers_from n count)) (add_read-leaves p a) h in
     let h = subst (Holds Numbered first_visit) is (expand_holds Numbered numbered (source ns) reads 32 [] false path path first_visit) in
     let e : v.leaves ≡ h.0 = h.1 ∙ omega arith in h.2 ∙ ap (numbers_from 0) (sym e)

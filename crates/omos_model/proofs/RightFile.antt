@@ -1,20 +1,20 @@
 -- What is right in a file without a fault.
-use Rattle.std.proofs.Common.{◌≡◌, ℕ, ◌+◌, ◌-◌, ◌*◌, ◌/◌, ◌<◌, ◌≤◌, ◌==◌, Bool, true, false, not}
-use Rattle.std.proofs.Common.{◌&&◌, ◌||◌, List, [], ◌∷◌, length, Option, Some, None, refl, sym, ap}
-use Rattle.std.proofs.Common.{◌∙◌, cond, arith}
+use Rattle.std.proofs.Common.{◌≡◌, ℕ, ◌+◌, ◌-◌, ◌*◌, ◌/◌, ◌≤◌, ◌==◌, Bool, true, false, not}
+use Rattle.std.proofs.Common.{◌&&◌, List, [], ◌∷◌, length, Option, Some, None, refl}
+use Rattle.std.proofs.Common.{cond, arith}
 use Rattle.std.specs.Prelude.{nat_le, nat_lt, slice_get, unwrap_or}
 use Rattle.std.specs.List.{find, list_all}
-use Rattle.std.specs.Option.{option_or, option_map}
+use Rattle.std.specs.Option.{option_map}
 use Rattle.std.proofs.lemmas.Bool.{and_parts, not-false, leb-true, cond_both}
 use Rattle.omos_model.specs.Numbers.{first_some}
 use Rattle.omos_model.specs.ElfFields.{e_shnum, e_shoff, e_shentsize, name_of, sh_size, sections}
 use Rattle.omos_model.specs.ElfFields.{symtabs, symbol_count, symbols}
 use Rattle.omos_model.specs.ElfFaults.{object_fault, faults, fault_unless, has_headers}
-use Rattle.omos_model.specs.ElfFaults.{is_wrong_section, is_right_symtab, are_right_symtabs}
+use Rattle.omos_model.specs.ElfFaults.{is_wrong_section, are_right_symtabs}
 use Rattle.omos_model.specs.ElfFaults.{is_wrong_symbol, is_again, is_wrong_rela, is_wrong_entry}
 use Rattle.omos_model.specs.ElfFaults.{entries}
-use Rattle.omos_model.specs.ElfFaults.{has_right_info, has_right_section, has_right_value}
-use Rattle.omos_model.specs.ElfFaults.{has_right_common, has_right_name}
+use Rattle.omos_model.specs.ElfFaults.{has_right_section, has_right_value}
+use Rattle.omos_model.specs.ElfFaults.{has_right_common}
 use Rattle.omos_model.specs.declared.refusal.ObjectFault.{ObjectFault}
 use Rattle.omos_model.specs.declared.refusal.ObjectFault.TheVariants as fault
 use Rattle.omos_model.proofs.Ranges.{InRange, find_none, none_found}
@@ -84,7 +84,8 @@ pub record RightSymbol (file : List ℕ) (k : ℕ) : Type 0 where
   pub value : has_right_value file k ≡ true
   pub common : has_right_common file k ≡ true
 
-pub right_symbol : (file : List ℕ) → RightFile file → (k : ℕ) → IsSymbolNumber file k → RightSymbol file k
+pub right_symbol : (file : List ℕ) → RightFile file → (k : ℕ) → IsSymbolNumber file k
+    → RightSymbol file k
 right_symbol file right k within =
     let all = not-false _ (right.symbols k within) in
     let a = and_parts _ _ all in

@@ -20,21 +20,25 @@ use Rattle.omos_model.specs.declared.entry.Stamped.{Stamped}
 use Rattle.omos_model.proofs.Names.{same_name-true, same_name-refl, is_eq-name_cmp}
 
 -- the later of two that are looked for, where they aren't the same
-swapped : {X : Type 0} (a b : Bool) (x y : X) (o : Option X) → (a ≡ true → b ≡ true → ⊥) → cond a (Some x) (cond b (Some y) o) ≡ cond b (Some y) (cond a (Some x) o)
+swapped : {X : Type 0} (a b : Bool) (x y : X) (o : Option X) → (a ≡ true → b ≡ true → ⊥)
+    → cond a (Some x) (cond b (Some y) o) ≡ cond b (Some y) (cond a (Some x) o)
 swapped true true x y o h = absurd (h refl refl)
 swapped true false x y o h = refl
 swapped false b x y o h = refl
 
-pub look_up-with_entry : (ns : Space) (s : Stamped) (p : Name) → look_up (with_entry ns s) p ≡ cond (same_name p s.path) (Some s) (look_up ns p)
+pub look_up-with_entry : (ns : Space) (s : Stamped) (p : Name)
+    → look_up (with_entry ns s) p ≡ cond (same_name p s.path) (Some s) (look_up ns p)
 look_up-with_entry [] s p = refl
 look_up-with_entry (x ∷ xs) s p = go (name_cmp s.path x.path) refl (look_up-with_entry xs s p)
   where
-    go : (o : Ordering) → name_cmp s.path x.path ≡ o → look_up (with_entry xs s) p ≡ cond (same_name p s.path) (Some s) (look_up xs p)
+    go : (o : Ordering) → name_cmp s.path x.path ≡ o
+        → look_up (with_entry xs s) p ≡ cond (same_name p s.path) (Some s) (look_up xs p)
         → look_up (match_ordering o (s ∷ x ∷ xs) (s ∷ xs) (x ∷ with_entry xs s)) p ≡ cond (same_name p s.path) (Some s) (look_up (x ∷ xs) p)
     go Less e i = refl
     go Equal e i = again (same_name p s.path) refl
       where
-        again : (b : Bool) → same_name p s.path ≡ b → cond b (Some s) (look_up xs p) ≡ cond b (Some s) (cond (same_name p x.path) (Some x) (look_up xs p))
+        again : (b : Bool) → same_name p s.path ≡ b
+            → cond b (Some s) (look_up xs p) ≡ cond b (Some s) (cond (same_name p x.path) (Some x) (look_up xs p))
         again true d = refl
         again false d = rw (sym (ap (same_name p) (exact_bytes s.path x.path e)) ∙ d) refl
     go Greater e i =
@@ -46,7 +50,8 @@ option_or_None : {X : Type 0} (o : Option X) → option_or o None ≡ o
 option_or_None None = refl
 option_or_None (Some x) = refl
 
-option_or_find : {X : Type 0} (f o : Option X) (b : Bool) (x : X) → option_or f (cond b (Some x) o) ≡ option_or (option_or f (cond b (Some x) None)) o
+option_or_find : {X : Type 0} (f o : Option X) (b : Bool) (x : X)
+    → option_or f (cond b (Some x) o) ≡ option_or (option_or f (cond b (Some x) None)) o
 option_or_find (Some y) o b x = refl
 option_or_find None o true x = refl
 option_or_find None o false x = refl
@@ -79,29 +84,36 @@ above-trans : (p q : Name) (ps : List Name) → name_cmp p q ≡ Less → Above 
 above-trans p q [] e h = tt
 above-trans p q (x ∷ xs) e h = (nat_list_cmp_total.trans p q x e h.0, above-trans p q xs e h.1)
 
-above-with_entry : (p : Name) (ns : Space) (s : Stamped) → name_cmp p s.path ≡ Less → Above p (paths ns) → Above p (paths (with_entry ns s))
+above-with_entry : (p : Name) (ns : Space) (s : Stamped) → name_cmp p s.path ≡ Less
+    → Above p (paths ns) → Above p (paths (with_entry ns s))
 above-with_entry p [] s e h = (e, tt)
 above-with_entry p (x ∷ xs) s e h = go (name_cmp s.path x.path) (above-with_entry p xs s e h.1)
   where
-    go : (o : Ordering) → Above p (paths (with_entry xs s)) → Above p (paths (match_ordering o (s ∷ x ∷ xs) (s ∷ xs) (x ∷ with_entry xs s)))
+    go : (o : Ordering) → Above p (paths (with_entry xs s))
+        → Above p (paths (match_ordering o (s ∷ x ∷ xs) (s ∷ xs) (x ∷ with_entry xs s)))
     go Less i = (e, h)
     go Equal i = (e, h.1)
     go Greater i = (h.0, i)
 
-IsStrictlySortedBy-with_entry : (ns : Space) (s : Stamped) → IsStrictlySortedBy name_cmp (paths ns) → IsStrictlySortedBy name_cmp (paths (with_entry ns s))
+IsStrictlySortedBy-with_entry : (ns : Space) (s : Stamped) → IsStrictlySortedBy name_cmp (paths ns)
+    → IsStrictlySortedBy name_cmp (paths (with_entry ns s))
 unfolding IsStrictlySortedBy
 IsStrictlySortedBy-with_entry [] s h = (tt, tt)
-IsStrictlySortedBy-with_entry (x ∷ xs) s h = go (name_cmp s.path x.path) refl (IsStrictlySortedBy-with_entry xs s h.1)
+IsStrictlySortedBy-with_entry (x ∷ xs) s h =
+    go (name_cmp s.path x.path) refl (IsStrictlySortedBy-with_entry xs s h.1)
   where
-    go : (o : Ordering) → name_cmp s.path x.path ≡ o → IsStrictlySortedBy name_cmp (paths (with_entry xs s))
+    go : (o : Ordering) → name_cmp s.path x.path ≡ o
+        → IsStrictlySortedBy name_cmp (paths (with_entry xs s))
         → IsStrictlySortedBy name_cmp (paths (match_ordering o (s ∷ x ∷ xs) (s ∷ xs) (x ∷ with_entry xs s)))
     go Less e i = ((e, above-trans s.path x.path (paths xs) e h.0), h)
     go Equal e i = (subst (λ p. Above p (paths xs)) (sym (exact_bytes s.path x.path e)) h.0, h.1)
     go Greater e i = (above-with_entry x.path xs s (nat_list_cmp_total.antisymm x.path s.path ∙ ap ordering_reverse e) h.0, i)
 
-sorted_after_all : (ss : List Stamped) (ns : Space) → IsStrictlySortedBy name_cmp (paths ns) → IsStrictlySortedBy name_cmp (paths (fold with_entry ns ss))
+sorted_after_all : (ss : List Stamped) (ns : Space) → IsStrictlySortedBy name_cmp (paths ns)
+    → IsStrictlySortedBy name_cmp (paths (fold with_entry ns ss))
 sorted_after_all [] ns h = h
-sorted_after_all (s ∷ ss) ns h = sorted_after_all ss (with_entry ns s) (IsStrictlySortedBy-with_entry ns s h)
+sorted_after_all (s ∷ ss) ns h =
+    sorted_after_all ss (with_entry ns s) (IsStrictlySortedBy-with_entry ns s h)
 
 pub order_law : OrderLaw
 unfolding IsStrictlySortedBy
@@ -109,7 +121,8 @@ order_law puts v = sorted_after_all (stamped_from 1 (take v puts)) [] tt
 
 -- ---- versions
 
-fold-append : {A B : Type 0} (f : B → A → B) (b : B) (xs ys : List A) → fold f b (xs ++ ys) ≡ fold f (fold f b xs) ys
+fold-append : {A B : Type 0} (f : B → A → B) (b : B) (xs ys : List A)
+    → fold f b (xs ++ ys) ≡ fold f (fold f b xs) ys
 fold-append f b [] ys = refl
 fold-append f b (x ∷ xs) ys = fold-append f (f b x) xs ys
 
@@ -128,7 +141,7 @@ pub next_version_law : NextVersionLaw
 next_version_law puts path entry =
     let put : Name × Entry = (path, entry) in
     let whole : take (length puts + 1) (puts ++ put ∷ []) ≡ puts ++ put ∷ [] =
-      take_all (length puts + 1) (puts ++ put ∷ []) (omega (arith, length-append puts (put ∷ []))) in
+    take_all (length puts + 1) (puts ++ put ∷ []) (omega (arith, length-append puts (put ∷ []))) in
     let old : take (length puts) puts ≡ puts = take_all (length puts) puts (omega arith) in
     let stamp : 1 + length puts ≡ length puts + 1 = omega arith in
     ap made_of whole

@@ -19,7 +19,8 @@ barred a b = Decides-not (a == b) (Decides-eqb a b)
 within : (lo hi b : ℕ) → Decides (nat_le lo b && nat_le b hi) (IsInRange lo hi b)
 within lo hi b = Decides-and (nat_le lo b) (nat_le b hi) (leb_law lo b) (leb_law b hi)
 
-five : {P Q R S T : Type 0} (p q r s t : Bool) → Decides p P → Decides q Q → Decides r R → Decides s S → Decides t T
+five : {P Q R S T : Type 0} (p q r s t : Bool) → Decides p P → Decides q Q → Decides r R
+    → Decides s S → Decides t T
     → Decides (p && q && r && s && t) (P × Q × R × S × T)
 five {P} {Q} {R} {S} {T} p q r s t a b c d e =
     Decides-like (p && q && r && s && t) (λ h. (h.0.0.0.0, h.0.0.0.1, h.0.0.1, h.0.1, h.1)) (λ h. ((((h.0, h.1), h.2), h.3), h.4))

@@ -32,10 +32,13 @@ after_leaf f v =
 pub record Lasts (R : Visit → Term → Visit → Type 0) : Type 0 where
   pub leaf : (v : Visit) (f : FragmentParts) (s : Site) → R v (Leaf s v.leaves f) (after_leaf f v)
   pub merge : (s : Site) (v w x : Visit) (t u : Term) → R v t w → R w u x → R v (Merge s t u) x
-  pub override : (s : Site) (v w x : Visit) (t u : Term) → R v t w → R w u x → R v (Override s t u) x
+  pub override : (s : Site) (v w x : Visit) (t u : Term) → R v t w → R w u x
+      → R v (Override s t u) x
   pub apply : (s : Site) (op : Op) (v w : Visit) (t : Term) → R v t w → R v (Apply s op t) w
-  pub begun : (v w : Visit) (t : Term) (n m : ℕ) → R (record v { node = n; nodes = m }) t w → R v t w
-  pub nested : (v w : Visit) (t : Term) (n m : ℕ) → R (record v { node = n }) t w → R v t (record w { node = m })
+  pub begun : (v w : Visit) (t : Term) (n m : ℕ) → R (record v { node = n; nodes = m }) t w
+      → R v t w
+  pub nested : (v w : Visit) (t : Term) (n m : ℕ) → R (record v { node = n }) t w
+      → R v t (record w { node = m })
 
 -- the fact holds of what was visited from v on
 abbrev pub Holds : (Visit → Term → Visit → Type 0) → Visit → Visited Term → Type 0
@@ -45,25 +48,31 @@ Holds R v (Err x) = Unit {0}
 module _ (R : Visit → Term → Visit → Type 0) (lasts : Lasts R) where
   both_hold : (join : Term → Term → Term) (l r : Visitor Term)
       → ((v w x : Visit) (t u : Term) → R v t w → R w u x → R v (join t u) x)
-      → ((v : Visit) → Holds R v (l v)) → ((v : Visit) → Holds R v (r v)) → (v : Visit) → Holds R v (both join l r v)
+      → ((v : Visit) → Holds R v (l v)) → ((v : Visit) → Holds R v (r v)) → (v : Visit)
+      → Holds R v (both join l r v)
   both_hold join l r joins hl hr v = left (l v) (hl v)
     where
-      right : (t : Term) (w : Visit) → R v t w → (x : Visited Term) → Holds R w x → Holds R v (and_then x (λ u y. Ok (join t u, y)))
+      right : (t : Term) (w : Visit) → R v t w → (x : Visited Term) → Holds R w x
+          → Holds R v (and_then x (λ u y. Ok (join t u, y)))
       right t w h (Ok p) k = joins v w p.1 t p.0 h k
       right t w h (Err x) k = tt
 
-      left : (x : Visited Term) → Holds R v x → Holds R v (and_then x (λ t w. and_then (r w) (λ u y. Ok (join t u, y))))
+      left : (x : Visited Term) → Holds R v x
+          → Holds R v (and_then x (λ t w. and_then (r w) (λ u y. Ok (join t u, y))))
       left (Ok p) h = right p.0 p.1 h (r p.1) (hr p.1)
       left (Err x) h = tt
 
-  one_holds : (s : Site) (op : Op) (x : Visitor Term) → ((v : Visit) → Holds R v (x v)) → (v : Visit) → Holds R v (one (Apply s op) x v)
+  one_holds : (s : Site) (op : Op) (x : Visitor Term) → ((v : Visit) → Holds R v (x v))
+      → (v : Visit) → Holds R v (one (Apply s op) x v)
   one_holds s op x h v = go (x v) (h v)
     where
       go : (y : Visited Term) → Holds R v y → Holds R v (and_then y (λ t w. Ok (Apply s op t, w)))
       go (Ok r) k = lasts.apply s op v r.1 r.0 k
       go (Err e) k = tt
 
-  begin_holds : (at : Name) (more : Site → Visitor Term) → ((s : Site) (v : Visit) → Holds R v (more s v)) → (v : Visit) → Holds R v (and_then (begin at v) more)
+  begin_holds : (at : Name) (more : Site → Visitor Term)
+      → ((s : Site) (v : Visit) → Holds R v (more s v)) → (v : Visit)
+      → Holds R v (and_then (begin at v) more)
   begin_holds at more h v = go (nat_lt v.nodes 4096)
     where
       w : Visit
@@ -84,7 +93,9 @@ module _ (R : Visit → Term → Visit → Type 0) (lasts : Lasts R) where
       go true = lasts.leaf v f s
       go false = tt
 
-  visit_holds : (at : Name) (path : Name → Visitor Term) → ((p : Name) (v : Visit) → Holds R v (path p v)) → (x : Tree) (v : Visit) → Holds R v (visit at path x v)
+  visit_holds : (at : Name) (path : Name → Visitor Term)
+      → ((p : Name) (v : Visit) → Holds R v (path p v)) → (x : Tree) (v : Visit)
+      → Holds R v (visit at path x v)
   visit_holds at path h (tree.Path p) v = h p v
   visit_holds at path h (tree.Merge l r) v =
       begin_holds at _ (λ s. both_hold (Merge s) (visit at path l) (visit at path r) (lasts.merge s) (visit_holds at path h l) (visit_holds at path h r)) v
@@ -95,39 +106,50 @@ module _ (R : Visit → Term → Visit → Type 0) (lasts : Lasts R) where
   visit_holds at path h (tree.Apply op x) v =
       begin_holds at _ (λ s. one_holds s op (visit at path x) (visit_holds at path h x)) v
 
-  begin_path_holds : (counts : Bool) (at : Name) (more : Site → Visitor Term) → ((s : Site) (v : Visit) → Holds R v (more s v)) → (v : Visit)
+  begin_path_holds : (counts : Bool) (at : Name) (more : Site → Visitor Term)
+      → ((s : Site) (v : Visit) → Holds R v (more s v)) → (v : Visit)
       → Holds R v (and_then (begin_path counts at v) more)
   begin_path_holds true at more h v = begin_holds at more h v
   begin_path_holds false at more h v = h (here at v) v
 
-  nested_holds : (x : Visitor Term) → ((v : Visit) → Holds R v (x v)) → (v : Visit) → Holds R v (nested x v)
+  nested_holds : (x : Visitor Term) → ((v : Visit) → Holds R v (x v)) → (v : Visit)
+      → Holds R v (nested x v)
   nested_holds x h v = go (x (record v { node = 0 })) (h (record v { node = 0 }))
     where
-      go : (y : Visited Term) → Holds R (record v { node = 0 }) y → Holds R v (and_then y (λ t w. Ok (t, record w { node = v.node })))
+      go : (y : Visited Term) → Holds R (record v { node = 0 }) y
+          → Holds R v (and_then y (λ t w. Ok (t, record w { node = v.node })))
       go (Ok r) k = lasts.nested v r.1 r.0 0 v.node k
       go (Err e) k = tt
 
-  unless_cycle_holds : (above : List Name) (at p : Name) (x : Visitor Term) (v w : Visit) → Holds R w (x v) → Holds R w (unless_cycle above at p x v)
+  unless_cycle_holds : (above : List Name) (at p : Name) (x : Visitor Term) (v w : Visit)
+      → Holds R w (x v) → Holds R w (unless_cycle above at p x v)
   unless_cycle_holds above at p x v w h = go (is_among above p)
     where
       go : (b : Bool) → Holds R w (cond b (Err (Cycle (here at v) p)) (x v))
       go true = tt
       go false = h
 
-  entered_holds : (blueprint : Tree → Visitor Term) (counts : Bool) (at p : Name) (v : Visit) (o : Option Source)
-      → ((x : Tree) → Holds R (add_read p v) (blueprint x v)) → Holds R (add_read p v) (entered blueprint counts at p o v)
+  entered_holds : (blueprint : Tree
+      → Visitor Term) (counts : Bool) (at p : Name) (v : Visit) (o : Option Source)
+      → ((x : Tree) → Holds R (add_read p v) (blueprint x v))
+      → Holds R (add_read p v) (entered blueprint counts at p o v)
   entered_holds blueprint counts at p v None h = tt
-  entered_holds blueprint counts at p v (Some (Object f)) h = begin_path_holds counts at (leaf f) (leaf_holds f) (add_read p v)
+  entered_holds blueprint counts at p v (Some (Object f)) h =
+      begin_path_holds counts at (leaf f) (leaf_holds f) (add_read p v)
   entered_holds blueprint counts at p v (Some (Blueprint x)) h = h x
 
   module _ (ns : Name → Option Source)
-    (reads : (p : Name) (s : Source) → ns p ≡ Some s → (v w : Visit) (t : Term) → R (add_read p v) t w → R v t w) where
-    weaken : (p : Name) (t : Source) → ns p ≡ Some t → (v : Visit) (x : Visited Term) → Holds R (add_read p v) x → Holds R v x
+      (reads : (p : Name) (s : Source) → ns p ≡ Some s → (v w : Visit) (t : Term)
+      → R (add_read p v) t w → R v t w) where
+    weaken : (p : Name) (t : Source) → ns p ≡ Some t → (v : Visit) (x : Visited Term)
+        → Holds R (add_read p v) x → Holds R v x
     weaken p t e v (Ok r) h = reads p t e v r.1 r.0 h
     weaken p t e v (Err x) h = tt
 
-    from_entry : (blueprint : Tree → Visitor Term) (counts : Bool) (at p : Name) (v : Visit) (o : Option Source) → ns p ≡ o
-        → ((x : Tree) → Holds R (add_read p v) (blueprint x v)) → Holds R v (entered blueprint counts at p o v)
+    from_entry : (blueprint : Tree
+        → Visitor Term) (counts : Bool) (at p : Name) (v : Visit) (o : Option Source) → ns p ≡ o
+        → ((x : Tree) → Holds R (add_read p v) (blueprint x v))
+        → Holds R v (entered blueprint counts at p o v)
     from_entry blueprint counts at p v None e h = tt
     from_entry blueprint counts at p v (Some t) e h =
         weaken p t e v (entered blueprint counts at p (Some t) v) (entered_holds blueprint counts at p v (Some t) h)
@@ -136,19 +158,23 @@ module _ (R : Visit → Term → Visit → Type 0) (lasts : Lasts R) where
     opened : (inner : Name → Visitor Term) → ((q : Name) (w : Visit) → Holds R w (inner q w))
         → (above : List Name) (counts : Bool) (at p : Name) (v : Visit) (x : Tree)
         → Holds R (add_read p v)
-          (unless_cycle above at p (λ w. and_then (begin_path counts at (add_read p w)) (λ s. nested (visit p inner x))) v)
+        (unless_cycle above at p (λ w. and_then (begin_path counts at (add_read p w)) (λ s. nested (visit p inner x))) v)
     opened inner h above counts at p v x =
         let more : Site → Visitor Term = λ s. nested (visit p inner x) in
         unless_cycle_holds above at p (λ w. and_then (begin_path counts at (add_read p w)) more) v (add_read p v)
         (begin_path_holds counts at more (λ s. nested_holds (visit p inner x) (visit_holds p inner h x)) (add_read p v))
 
-    too_deep : (above : List Name) (at p : Name) (v : Visit) → Holds R (add_read p v) (unless_cycle above at p (λ w. Err (TooDeep (here at w) p)) v)
-    too_deep above at p v = unless_cycle_holds above at p (λ w. Err (TooDeep (here at w) p)) v (add_read p v) tt
+    too_deep : (above : List Name) (at p : Name) (v : Visit)
+        → Holds R (add_read p v) (unless_cycle above at p (λ w. Err (TooDeep (here at w) p)) v)
+    too_deep above at p v =
+        unless_cycle_holds above at p (λ w. Err (TooDeep (here at w) p)) v (add_read p v) tt
 
     -- the fact holds of a path, wherever it is visited
-    pub expand_holds : (room : ℕ) (above : List Name) (counts : Bool) (at p : Name) (v : Visit) → Holds R v (expand ns room above counts at p v)
+    pub expand_holds : (room : ℕ) (above : List Name) (counts : Bool) (at p : Name) (v : Visit)
+        → Holds R v (expand ns room above counts at p v)
     unfolding expand
-    expand_holds zero above counts at p v = from_entry _ counts at p v (ns p) refl (λ x. too_deep above at p v)
+    expand_holds zero above counts at p v =
+        from_entry _ counts at p v (ns p) refl (λ x. too_deep above at p v)
     expand_holds (suc room) above counts at p v =
         from_entry _ counts at p v (ns p) refl
         (opened (expand ns room (above ++ p ∷ []) true p) (expand_holds room (above ++ p ∷ []) true p) above counts at p v)
@@ -157,7 +183,8 @@ module _ (R : Visit → Term → Visit → Type 0) (lasts : Lasts R) where
     pub expand_holds_then : (room : ℕ) (above : List Name) (counts : Bool) (at p : Name) (v : Visit)
         → Holds R (add_read p v) (expand ns room above counts at p v)
     unfolding expand
-    expand_holds_then zero above counts at p v = entered_holds _ counts at p v (ns p) (λ x. too_deep above at p v)
+    expand_holds_then zero above counts at p v =
+        entered_holds _ counts at p v (ns p) (λ x. too_deep above at p v)
     expand_holds_then (suc room) above counts at p v =
         entered_holds _ counts at p v (ns p)
         (opened (expand ns room (above ++ p ∷ []) true p) (expand_holds room (above ++ p ∷ []) true p) above counts at p v)

@@ -27,14 +27,34 @@ use Rattle.omos_model.specs.declared.refusal.ObjectFault.TheVariants as fault
 
 -- ---- sections (gABI, "Sections"; x86-64 psABI, "Special Sections")
 
-abbrev pub nobits : ℕ
-nobits = 8
+-- types of sections
+abbrev pub strtab : ℕ
+strtab = 3
 
 abbrev pub rela : ℕ
 rela = 4
 
+abbrev pub nobits : ℕ
+nobits = 8
+
+-- flags of sections
+abbrev pub write : ℕ
+write = 1
+
+abbrev pub alloc : ℕ
+alloc = 2
+
+abbrev pub execinstr : ℕ
+execinstr = 4
+
+abbrev pub tls : ℕ
+tls = 1024
+
+abbrev pub compressed : ℕ
+compressed = 2048
+
 abbrev pub is_alloc : List ℕ → ℕ → Bool
-is_alloc file i = has_flag file i 2
+is_alloc file i = has_flag file i alloc
 
 -- PROGBITS, NOTE, NOBITS, INIT_ARRAY, FINI_ARRAY and X86_64_UNWIND
 abbrev pub loaded_types : List ℕ
@@ -44,8 +64,8 @@ loaded_types = 1 ∷ 7 ∷ 8 ∷ 14 ∷ 15 ∷ 1879048193 ∷ []
 abbrev pub is_supported : List ℕ → ℕ → Bool
 is_supported file i =
     list_any (λ t. t == sh_type file i) loaded_types
-    && not (has_flag file i 1024) && not (has_flag file i 2048)
-    && not (has_flag file i 4 && (has_flag file i 1 || sh_type file i == nobits))
+    && not (has_flag file i tls) && not (has_flag file i compressed)
+    && not (has_flag file i execinstr && (has_flag file i write || sh_type file i == nobits))
 
 -- a section that is loaded
 abbrev pub is_kept : List ℕ → ℕ → Bool
@@ -76,7 +96,7 @@ is_unsupported file i =
 
 -- a string table's number, and the table lies in the file
 abbrev pub is_strtab : List ℕ → ℕ → Bool
-is_strtab file i = is_section file i && (sh_type file i == 3) && lies_in_file file i
+is_strtab file i = is_section file i && (sh_type file i == strtab) && lies_in_file file i
 
 abbrev pub is_right_symtab : List ℕ → ℕ → Bool
 is_right_symtab file i =
@@ -90,6 +110,7 @@ are_right_symtabs file [] = true
 are_right_symtabs file (i ∷ []) = is_right_symtab file i
 are_right_symtabs file (i ∷ j ∷ more) = false
 
+-- what st_shndx says where it is no section's number
 abbrev pub undef : ℕ
 undef = 0
 
@@ -229,6 +250,10 @@ is_elf file =
     same_name (take 7 file) (127 ∷ 69 ∷ 76 ∷ 70 ∷ 2 ∷ 1 ∷ 1 ∷ [])
     && ((number_at 1 7 file == 0) || (number_at 1 7 file == 3))
 
+-- 64 to 1,048,576 bytes
+abbrev pub has_length : List ℕ → Bool
+has_length file = nat_le 64 (length file) && nat_le (length file) 1048576
+
 -- ET_REL, EM_X86_64 and EV_CURRENT
 abbrev pub is_relocatable : List ℕ → Bool
 is_relocatable file = (e_type file == 1) && (e_machine file == 62) && (e_version file == 1)
@@ -244,10 +269,10 @@ has_headers file =
 abbrev pub fault_unless : Bool → ObjectFault → Option ObjectFault
 fault_unless fine x = if fine then None else Some x
 
--- O1 to O11, in this order, each where it is there
+-- O1 to O11 in this order, each where there is one: of the least section, symbol and entry
 abbrev pub faults : List ℕ → List (Option ObjectFault)
 faults file =
-    fault_unless (nat_le 64 (length file) && nat_le (length file) 1048576) fault.Length
+    fault_unless (has_length file) fault.Length
     ∷ fault_unless (is_elf file) fault.NotElf
     ∷ fault_unless (is_relocatable file) fault.Kind
     ∷ fault_unless (has_headers file) fault.Headers

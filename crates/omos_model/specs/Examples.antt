@@ -145,6 +145,9 @@ wrapped =
     Merge (Apply (Restrict malloc) (Apply (CopyAs malloc old) (Path lib))) (Path trace)
     )
 
+abbrev three : Tree
+three = More (Merge (Path lib) (Path user)) (Path ab)
+
 pub record OperatorExamples : Type 0 where
   -- of the two names that both define the lesser is refused, and the operands' order doesn't count
   pub conflict : refusal (Merge (Path ba) (Path ab))
@@ -154,9 +157,7 @@ pub record OperatorExamples : Type 0 where
   -- a merge of three is one node, also where it is the third that conflicts
   pub third : refusal (Apply (Freeze grab) (More (Merge (Path lib) (Path user)) (Path new)))
       ≡ Some (refused.Conflict (site_of made 1) malloc)
-  pub nodes_after : refusal (
-    Override (More (Merge (Path lib) (Path user)) (Path ab)) (Apply (Hide zip) (Path new))
-  )
+  pub nodes_after : refusal (Override three (Apply (Hide zip) (Path new)))
       ≡ Some (refused.NoDefinition (site_of made 5) zip)
   -- the call follows the definition that wins, unless it was bound before
   pub override : lands (Override (Path lib) (Path new)) 0 ≡ Some (On (Inside 1 0 0))
@@ -216,6 +217,10 @@ doubled =
     ∷ map (λ k. (twice k, Blueprint (Override (Path (twice (k - 1))) (Path (twice (k - 1))))))
     (numbers_from 1 8)
 
+-- the second link is as deep as may be, the first is deeper
+abbrev both_links : Source
+both_links = Blueprint (Override (Path (link 2)) (Path (link 1)))
+
 abbrev leaf_count : Visited Term → ℕ
 leaf_count (Ok r) = length (leaf_numbers r.0)
 leaf_count (Err x) = 0
@@ -265,9 +270,7 @@ pub record ExpansionExamples : Type 0 where
   pub chain_of_33 : error (expansion_by (with (chain 33)) (link 1))
       ≡ Some (refused.TooDeep (site_of (link 32) 0) (link 33))
   -- a path that is too deep in one place isn't in another
-  pub deep_first : error (
-    expansion_by (with (chain 32 ++ (x, Blueprint (Override (Path (link 2)) (Path (link 1)))) ∷ [])) x
-  )
+  pub deep_first : error (expansion_by (with (chain 32 ++ (x, both_links) ∷ [])) x)
       ≡ Some (refused.TooDeep (site_of (link 31) 0) (link 32))
   -- 256 leaves, and 257
   pub leaves_256 : leaf_count (expansion_by (with doubled) (twice 7)) ≡ 256

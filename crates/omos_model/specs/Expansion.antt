@@ -128,19 +128,21 @@ entered blueprint counts at p (Some (Blueprint x)) v = blueprint x v
 abbrev pub unless_cycle : List Name → Name → Name → Visitor Term → Visitor Term
 unless_cycle above at p x v = if is_among above p then Err (Cycle (here at v) p) else x v
 
+abbrev pub too_deep : Name → Name → Visitor Term
+too_deep at p v = Err (TooDeep (here at v) p)
+
+-- the blueprint p, whose own paths are visited by `path`
+abbrev pub opened : (Name → Visitor Term) → Bool → Name → Name → Tree → Visitor Term
+opened path counts at p x v =
+    and_then (begin_path counts at (add_read p v)) (λ s. nested (visit p path x))
+
 -- the path p at a node of `at`, inside the blueprints `above`, where `room` more may be opened
 unfoldable pub expand : (Name → Option Source) → ℕ → List Name → Bool → Name → Name → Visitor Term
 expand ns zero above counts at p =
-    entered (λ x. unless_cycle above at p (λ v. Err (TooDeep (here at v) p))) counts at p (ns p)
+    entered (λ x. unless_cycle above at p (too_deep at p)) counts at p (ns p)
 expand ns (suc room) above counts at p =
-    entered (
-    λ x.
-    unless_cycle above at p (
-    λ v.
-    and_then (begin_path counts at (add_read p v))
-    (λ s. nested (visit p (expand ns room (above ++ p ∷ []) true p) x))
-    )
-    ) counts at p (ns p)
+    let inner = expand ns room (above ++ p ∷ []) true p in
+    entered (λ x. unless_cycle above at p (opened inner counts at p x)) counts at p (ns p)
 
 abbrev pub first_visit : Visit
 first_visit = record { node = 0; nodes = 0; leaves = 0; exports = 0; fixups = 0; read = [] }

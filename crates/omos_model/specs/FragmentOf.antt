@@ -9,7 +9,8 @@ use Rattle.omos_model.specs.ElfFields.{sh_size, sh_info, sh_addralign, has_flag,
 use Rattle.omos_model.specs.ElfFields.{sections}
 use Rattle.omos_model.specs.ElfFields.{symbols, st_shndx, st_value, st_size, binding, name_of}
 use Rattle.omos_model.specs.ElfFields.{r_offset, r_addend, r_sym, r_type}
-use Rattle.omos_model.specs.ElfFaults.{is_kept, is_nobits, abs, common, undef, is_local, is_export}
+use Rattle.omos_model.specs.ElfFaults.{execinstr, write, is_kept, is_nobits, abs, common, undef}
+use Rattle.omos_model.specs.ElfFaults.{is_local, is_export}
 use Rattle.omos_model.specs.ElfFaults.{kind_of, entries, object_fault}
 use Rattle.omos_model.specs.declared.fragment.Group.{Group}
 use Rattle.omos_model.specs.declared.fragment.Group.TheVariants.{Code, Consts, Vars, Zeros}
@@ -27,7 +28,10 @@ use Rattle.omos_model.specs.declared.refusal.ObjectFault.{ObjectFault}
 abbrev pub group_of : List ℕ → ℕ → Group
 group_of file i =
     if is_nobits file i then Zeros
-    else (if has_flag file i 4 then Code else (if has_flag file i 1 then Vars else Consts))
+    else (
+    if has_flag file i execinstr then Code
+    else (if has_flag file i write then Vars else Consts)
+    )
 
 -- an alignment of 0 is 1
 abbrev pub alignment_of : ℕ → ℕ

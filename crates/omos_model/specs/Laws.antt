@@ -1,5 +1,6 @@
 -- Laws of the definitions.
-use Rattle.std.specs.Prelude.{◌≡◌, ◌↔◌, ◌+◌, ◌≤◌, ◌++◌, Some, slice_get, ℕ, ◌==◌, Bool, false, not, List, [], ◌∷◌, filter, map}
+use Rattle.std.specs.Prelude.{◌≡◌, ◌↔◌, ◌+◌, ◌≤◌, ◌++◌, Some, slice_get, ℕ, ◌==◌, Bool, false, not}
+use Rattle.std.specs.Prelude.{List, [], ◌∷◌, filter, map}
 use Rattle.std.specs.Prelude.{reverse, take, Ok, IfOk, IsTrue}
 use Rattle.std.specs.List.{list_all, list_any, find, IsDistinct}
 use Rattle.std.specs.List.Sorted.{IsStrictlySortedBy}
@@ -14,7 +15,8 @@ use Rattle.omos_model.specs.Term.{Term, Merge, Override, Apply, leaf_numbers}
 use Rattle.omos_model.specs.Definition.{definition, written}
 use Rattle.omos_model.specs.State.{state, states, in_rows}
 use Rattle.omos_model.specs.FirstRefusal.{both_define, conflict}
-use Rattle.omos_model.specs.Namespace.{Space, look_up, stamped_from, with_entry, version_of, namespace_at}
+use Rattle.omos_model.specs.Namespace.{Space, look_up, stamped_from, with_entry, version_of}
+use Rattle.omos_model.specs.Namespace.{namespace_at}
 use Rattle.omos_model.specs.Expansion.{expansion}
 use Rattle.omos_model.specs.Footprint.{footprint}
 use Rattle.omos_model.specs.declared.entry.Entry.{Entry}
@@ -116,7 +118,7 @@ NextVersionLaw =
     (puts : List (Name × Entry)) (path : Name) (entry : Entry)
     → namespace_at (puts ++ (path, entry) ∷ []) (version_of puts + 1)
     ≡ with_entry (namespace_at puts (version_of puts))
-      (record { path = path; stamp = version_of puts + 1; entry = entry })
+    (record { path = path; stamp = version_of puts + 1; entry = entry })
 
 -- later publishes change no version that is there
 abbrev pub OldVersionsLaw : Type 0
@@ -129,4 +131,5 @@ abbrev pub FootprintLaw : Type 0
 FootprintLaw =
     (ns : Space) (path : Name) (t : Term) (v : Visit) (entries : List Stamped)
     → expansion ns path ≡ Ok (t, v) → footprint ns path ≡ Some entries
-    → (map (λ s. s.path) entries ≡ v.read) × (slice_get v.read 0 ≡ Some path) × IsDistinct same_name v.read
+    → (map (λ s. s.path) entries ≡ v.read) × (slice_get v.read 0 ≡ Some path)
+    × IsDistinct same_name v.read
