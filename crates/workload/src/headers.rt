@@ -62,7 +62,8 @@ fn shdr_for(
     sh_addralign: u64,
     sh_entsize: u64,
 ) -> Shdr
-    ensures { result ≡ section_header sh_type sh_flags part sh_link sh_info sh_addralign sh_entsize }
+    ensures { result ≡
+        section_header sh_type sh_flags part sh_link sh_info sh_addralign sh_entsize }
 {
     Shdr {
         sh_name: 0,
