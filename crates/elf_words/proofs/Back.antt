@@ -35,7 +35,7 @@ pub shdr_back : (header : Shdr) (rest : List ℕ)
     → header.sh_addralign < 2 ^ 64
     → header.sh_entsize < 2 ^ 64
     → shdr_at (shdr_bytes header ++ rest) 0 ≡ header
-unfolding number_at
+unfolding number_at shdr_bytes
 shdr_back header rest f0 f1 f2 f3 f4 f5 f6 f7 f8 f9 =
     let bytes : List ℕ = shdr_bytes header ++ rest in
     let sh_name : number_at 4 0 bytes ≡ header.sh_name = number_back 4 _ f0 in
@@ -67,7 +67,7 @@ pub sym_back : (symbol : Sym) (rest : List ℕ)
     → symbol.st_value < 2 ^ 64
     → symbol.st_size < 2 ^ 64
     → sym_at (sym_bytes symbol ++ rest) 0 ≡ symbol
-unfolding number_at
+unfolding number_at sym_bytes
 sym_back symbol rest f0 f3 f4 f5 =
     let bytes : List ℕ = sym_bytes symbol ++ rest in
     let st_name : number_at 4 0 bytes ≡ symbol.st_name = number_back 4 _ f0 in
@@ -88,7 +88,7 @@ pub rela_back : (relocation : Rela) (rest : List ℕ)
     → relocation.r_info < 2 ^ 64
     → SFits w64 relocation.r_addend
     → rela_at (rela_bytes relocation ++ rest) 0 ≡ relocation
-unfolding number_at
+unfolding number_at rela_bytes
 rela_back relocation rest f0 f1 f2 =
     let bytes : List ℕ = rela_bytes relocation ++ rest in
     let r_offset : number_at 8 0 bytes ≡ relocation.r_offset = number_back 8 _ f0 in
@@ -113,7 +113,7 @@ pub phdr_back : (header : Phdr) (rest : List ℕ)
     → header.p_memsz < 2 ^ 64
     → header.p_align < 2 ^ 64
     → phdr_at (phdr_bytes header ++ rest) 0 ≡ header
-unfolding number_at
+unfolding number_at phdr_bytes
 phdr_back header rest f0 f1 f2 f3 f4 f5 f6 f7 =
     let bytes : List ℕ = phdr_bytes header ++ rest in
     let p_type : number_at 4 0 bytes ≡ header.p_type = number_back 4 _ f0 in
@@ -177,7 +177,7 @@ pub ehdr_back : (header : Ehdr) (rest : List ℕ)
     → header.e_shnum < 2 ^ 16
     → header.e_shstrndx < 2 ^ 16
     → ehdr_at (ehdr_bytes header ++ rest) 0 ≡ header
-unfolding number_at
+unfolding number_at ehdr_bytes
 ehdr_back header rest sixteen f0 f1 f2 f3 f4 f5 f6 f7 f8 f9 f10 f11 f12 =
     let tail : List ℕ = numbers header ++ rest in
     let split : ehdr_bytes header ++ rest ≡ header.e_ident ++ tail = ehdr_split header.e_ident

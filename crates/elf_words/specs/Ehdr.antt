@@ -25,7 +25,7 @@ ehdr_at file place = record {
 }
 
 -- its bytes; an offset stands beside its field
-abbrev pub ehdr_bytes : Ehdr → List ℕ
+unfoldable pub ehdr_bytes : Ehdr → List ℕ
 ehdr_bytes header =
     let e_ident = header.e_ident in  -- 0
     let e_type = little_bytes 2 header.e_type in  -- 16

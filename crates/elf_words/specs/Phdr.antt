@@ -19,7 +19,7 @@ phdr_at file place = record {
 }
 
 -- its bytes; an offset stands beside its field
-abbrev pub phdr_bytes : Phdr → List ℕ
+unfoldable pub phdr_bytes : Phdr → List ℕ
 phdr_bytes header =
     let p_type = little_bytes 4 header.p_type in  -- 0
     let p_flags = little_bytes 4 header.p_flags in  -- 4

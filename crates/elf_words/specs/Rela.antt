@@ -15,7 +15,7 @@ rela_at file place = record {
 }
 
 -- its bytes; an offset stands beside its field
-abbrev pub rela_bytes : Rela → List ℕ
+unfoldable pub rela_bytes : Rela → List ℕ
 rela_bytes relocation =
     let r_offset = little_bytes 8 relocation.r_offset in  -- 0
     let r_info = little_bytes 8 relocation.r_info in  -- 8

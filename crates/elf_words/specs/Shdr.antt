@@ -21,7 +21,7 @@ shdr_at file place = record {
 }
 
 -- its bytes; an offset stands beside its field
-abbrev pub shdr_bytes : Shdr → List ℕ
+unfoldable pub shdr_bytes : Shdr → List ℕ
 shdr_bytes header =
     let sh_name = little_bytes 4 header.sh_name in  -- 0
     let sh_type = little_bytes 4 header.sh_type in  -- 4

@@ -17,7 +17,7 @@ sym_at file place = record {
 }
 
 -- its bytes; an offset stands beside its field
-abbrev pub sym_bytes : Sym → List ℕ
+unfoldable pub sym_bytes : Sym → List ℕ
 sym_bytes symbol =
     let st_name = little_bytes 4 symbol.st_name in  -- 0
     let st_info = symbol.st_info ∷ [] in  -- 4

@@ -1,8 +1,10 @@
 use Rattle.std.proofs.Common.{◌≡◌, length, rules}
+use Rattle.elf_words.specs.Ehdr.{ehdr_bytes}
 use Rattle.elf_words.proofs.Written.{unwritten, written_more, number_more}
 use Rattle.elf_words.proofs.ehdr.EhdrRecord.write.Goals as goal
 
 pub returns : goal.returns
+unfolding ehdr_bytes
 returns c =
     let header = c.args.self.now in
     let start = unwritten c.args.into.now in

@@ -1,7 +1,9 @@
+use Rattle.elf_words.specs.Phdr.{phdr_bytes}
 use Rattle.elf_words.proofs.Written.{unwritten, number_more}
 use Rattle.elf_words.proofs.phdr.PhdrRecord.write.Goals as goal
 
 pub returns : goal.returns
+unfolding phdr_bytes
 returns c =
     let header = c.args.self.now in
     let start = unwritten c.args.into.now in

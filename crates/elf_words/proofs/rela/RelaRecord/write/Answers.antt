@@ -1,10 +1,12 @@
 use Rattle.std.proofs.Common.{◌≡◌, ap, ◌∙◌, rules, SFits}
 use Rattle.std.proofs.lemmas.Int.{to_z-of_z}
 use Rattle.std.specs.Int.{w64, cast_unsigned}
+use Rattle.elf_words.specs.Rela.{rela_bytes}
 use Rattle.elf_words.proofs.Written.{unwritten, number_more}
 use Rattle.elf_words.proofs.rela.RelaRecord.write.Goals as goal
 
 pub returns : goal.returns
+unfolding rela_bytes
 returns c =
     let relocation = c.args.self.now in
     let start = unwritten c.args.into.now in

@@ -1,7 +1,9 @@
+use Rattle.elf_words.specs.Shdr.{shdr_bytes}
 use Rattle.elf_words.proofs.Written.{unwritten, number_more}
 use Rattle.elf_words.proofs.shdr.ShdrRecord.write.Goals as goal
 
 pub returns : goal.returns
+unfolding shdr_bytes
 returns c =
     let header = c.args.self.now in
     let start = unwritten c.args.into.now in

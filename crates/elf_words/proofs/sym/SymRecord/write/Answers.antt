@@ -1,8 +1,10 @@
 use Rattle.std.proofs.Common.{ℕ, List, [], refl, ◌∷◌}
+use Rattle.elf_words.specs.Sym.{sym_bytes}
 use Rattle.elf_words.proofs.Written.{unwritten, written_more, number_more}
 use Rattle.elf_words.proofs.sym.SymRecord.write.Goals as goal
 
 pub returns : goal.returns
+unfolding sym_bytes
 returns c =
     let symbol = c.args.self.now in
     let start = unwritten c.args.into.now in

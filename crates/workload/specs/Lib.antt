@@ -1,0 +1,4 @@
+pub mod Headers
+pub mod Plain
+pub mod Plan
+pub mod Tables
