@@ -12,7 +12,8 @@ pub fn slots_work()
     ensures { SlotExamples }
 {}
 
-/// When a program has no plan or no image.
+/// When a program has no plan or no image, and the headers of one that has.
+#[tactic(auto, unfolding(elf_words::specs::Ehdr::ehdr_bytes, elf_words::specs::Phdr::phdr_bytes))]
 pub fn plans_work()
     ensures { PlanExamples }
 {}
