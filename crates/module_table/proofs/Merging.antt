@@ -7,13 +7,11 @@ use Rattle.omos_base.specs.declared.fault.Fault.TheVariants.{Refused, NoMemory}
 use Rattle.omos_model.specs.Names.{Name}
 use Rattle.omos_model.specs.NameLists.{IsLeast}
 use Rattle.omos_model.specs.Term.{Term}
-use Rattle.omos_model.specs.Definition.{definition}
 use Rattle.omos_model.specs.FirstRefusal.{both_define, conflict}
 use Rattle.omos_model.specs.declared.refusal.Site.{Site}
 use Rattle.omos_model.specs.declared.refusal.Refusal.{Refusal}
 use Rattle.omos_model.proofs.Least.{IsLeast-unique}
 use Rattle.omos_model.proofs.Written.{conflict-IsLeast}
-use Rattle.omos_model.proofs.TermLaws.{option_or_swaps}
 use Rattle.module_table.specs.TableParts.{TableParts, held}
 use Rattle.module_table.specs.Faults.{Tells}
 use Rattle.module_table.specs.Stands.{StandsFor, Answers, refusal_at}
@@ -25,11 +23,6 @@ pub conflict_as : (left right : TableParts) (l r : Term) (o : Option Name) → S
 conflict_as left right l r o sl sr h =
     IsLeast-unique (both_define l r) o (conflict l r)
     (subst (λ (test : Name → Bool). IsLeast test o) (λ i n. is_some (sl.names n i) && is_some (sr.names n i)) h) (conflict-IsLeast l r)
-
--- where there is none, the order does not count
-pub no_conflict : (l r : Term) (n : Name) → conflict l r ≡ None → option_or (definition r n) (definition l n) ≡ option_or (definition l n) (definition r n)
-no_conflict l r n h =
-    sym (option_or_swaps (definition l n) (definition r n) (subst (IsLeast (both_define l r)) h (conflict-IsLeast l r) n))
 
 pub tells_answer : (f : Fault TableFault) (x : TableFault) (s : Site) (t : Term) (q : Option Refusal) → Tells f x → q ≡ Some (refusal_at s x) → Answers (Err f) s t q
 tells_answer (Refused y) x s t q h e = e ∙ (λ i. Some (refusal_at s (sym h i)))

@@ -1,6 +1,7 @@
 //! The definitions of a table, and what each operator makes of them.
 
-ghost use Rattle.std.specs.Prelude.{◌≡◌, ◌&&◌, IfOk, OnOk, is_some, if◌then◌else◌, IsSome, None, Some};
+ghost use Rattle.std.specs.Prelude.{◌≡◌, ◌&&◌, if◌then◌else◌, IfOk, OnOk, IsSome, is_some};
+ghost use Rattle.std.specs.Prelude.{None, Some};
 ghost use Rattle.std.specs.Map.{keys_of};
 ghost use Rattle.std.specs.Option.{option_copied, option_or};
 ghost use Rattle.omos_model.specs.Names.{Name, same_name};

@@ -1,10 +1,10 @@
 //! The references of a table, leaf by leaf.
 
-ghost use Rattle.std.specs.Prelude.{◌≡◌, map, IfOk, OnOk};
+ghost use Rattle.std.specs.Prelude.{◌≡◌, map, IfOk, OnOk, IsSome, Some};
 ghost use Rattle.std.specs.List.{list_any};
 ghost use Rattle.std.specs.Option.{option_copied};
 ghost use Rattle.omos_model.specs.Definition.{target_of};
-ghost use Rattle.omos_model.specs.State.{in_row, is_open_as, is_open_in, mark_of, remarked};
+ghost use Rattle.omos_model.specs.State.{in_row, in_rows, is_open_as, is_open_in, mark_of, remarked};
 
 use crate::rules::Rule;
 use omos_base::{NoMemory, Row, SymName};
@@ -117,11 +117,24 @@ pub fn of_leaf(alloc: Global, fixups: &[Fixup], leaf: u32) -> Result<Row<Mark>, 
 }
 
 /// The reference of a fixup of a leaf, where the row is that leaf's and has it.
-pub fn at(row: &MarkRow, leaf: u32, fixup: u32) -> Option<&Mark>
+fn at(row: &MarkRow, leaf: u32, fixup: u32) -> Option<&Mark>
     ensures { option_copied result ≡ in_row row.now leaf fixup }
 {
     if row.number != leaf {
         return None;
     }
     row.marks.as_slice().get(fixup as usize)
+}
+
+/// The reference of a fixup of a leaf, in the first row that has it.
+pub fn reference(rows: &[MarkRow], leaf: u32, fixup: u32) -> &Mark
+    requires { IsSome (in_rows rows.now leaf fixup) }
+    ensures { in_rows rows.now leaf fixup ≡ Some result.now }
+{
+    for row in rows {
+        if let Some(mark) = at(row, leaf, fixup) {
+            return mark;
+        }
+    }
+    unreachable!()
 }

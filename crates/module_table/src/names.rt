@@ -1,7 +1,7 @@
 //! The names that a table defines.
 
 ghost use Rattle.std.specs.Prelude.{IfOk};
-ghost use Rattle.module_table.specs.TableParts.{AreNames};
+ghost use Rattle.module_table.specs.TableParts.{AreNames, held};
 
 use indexmap::IndexMap;
 use omos_base::{NoMemory, Row, SymName};
@@ -13,7 +13,7 @@ fn ordered(
     alloc: Global,
     exports: &IndexMap<SymName, Target>,
 ) -> Result<BTreeSet<SymName>, NoMemory>
-    ensures { IfOk result (λ names. AreNames names.keys exports.now.entries) }
+    ensures { IfOk result (λ names. AreNames names.keys (held exports.now.entries)) }
 {
     let mut names = BTreeSet::new(alloc);
     for name in exports.keys() {
@@ -24,7 +24,7 @@ fn ordered(
 
 /// The names that are defined, in the order of bytes, each once.
 pub fn of(alloc: Global, exports: &IndexMap<SymName, Target>) -> Result<Row<SymName>, NoMemory>
-    ensures { IfOk result (λ names. AreNames names exports.now.entries) }
+    ensures { IfOk result (λ names. AreNames names (held exports.now.entries)) }
 {
     let names = ordered(alloc, exports)?;
     let list: Vec<SymName> = names.into_iter().collect(alloc)?;

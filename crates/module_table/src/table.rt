@@ -1,10 +1,12 @@
 //! A table of one module, made from an object or from other tables.
 
 ghost use Rattle.std.specs.Prelude.{◌≡◌, IfOk, IsSome, Some};
-ghost use Rattle.omos_model.specs.State.{in_rows};
+ghost use Rattle.omos_model.specs.Term.{Term};
+ghost use Rattle.omos_model.specs.Definition.{definition};
+ghost use Rattle.omos_model.specs.State.{state, states, in_rows};
 ghost use Rattle.omos_model.specs.Op.{Rename, Restrict, Freeze, Hide, Show, CopyAs};
 ghost use Rattle.module_table.specs.TableParts.{defined_in, AreNames};
-ghost use Rattle.module_table.specs.Stands.{IsObject, StandsForLeaf, StandsForOverride};
+ghost use Rattle.module_table.specs.Stands.{StandsFor, IsObject, StandsForLeaf, StandsForOverride};
 ghost use Rattle.module_table.specs.Stands.{AnswersOp, AnswersMerge};
 
 use crate::fault::{self, TableFault};
@@ -59,7 +61,8 @@ impl Table {
 
     /// What the name is defined as, or None exactly where it isn't defined: one look-up.
     pub fn find(&self, name: &SymName) -> Option<Target>
-        ensures { result ≡ defined_in self.now name.now }
+        ensures held { result ≡ defined_in self.now name.now }
+        ensures meant { (t : Term) → StandsFor self.now t → result ≡ definition t name.now }
     {
         self.exports.get(name).copied()
     }
@@ -67,19 +70,25 @@ impl Table {
     /// What the fixup of a leaf is at the top of the module, found leaf by leaf.
     pub fn reference(&self, leaf: u32, fixup: u32) -> &Mark
         requires { IsSome (in_rows self.now.rows leaf fixup) }
-        ensures { in_rows self.now.rows leaf fixup ≡ Some result.now }
+        ensures held { in_rows self.now.rows leaf fixup ≡ Some result.now }
+        ensures meant { (t : Term) → StandsFor self.now t → state t leaf fixup ≡ Some result.now }
     {
-        for row in &self.rows {
-            if let Some(mark) = marks::at(row, leaf, fixup) {
-                return mark;
-            }
-        }
-        unreachable!()
+        marks::reference(self.rows.as_slice(), leaf, fixup)
+    }
+
+    /// The leaves, from left to right, each with what its fixups are at the top of the module.
+    pub fn rows(&self) -> &[MarkRow]
+        ensures held { result.now ≡ self.now.rows }
+        ensures meant { (t : Term) → StandsFor self.now t → result.now ≡ states t }
+    {
+        self.rows.as_slice()
     }
 
     /// The names that are defined, in the order of bytes, each once; their bytes are shared.
     pub fn names(&self) -> Result<Row<SymName>, NoMemory>
-        ensures { IfOk result (λ names. AreNames names self.now.exports) }
+        ensures held { IfOk result (λ names. AreNames names (defined_in self.now)) }
+        ensures meant { IfOk result
+            (λ names. (t : Term) → StandsFor self.now t → AreNames names (definition t)) }
     {
         names::of(*self.exports.allocator(), &self.exports)
     }
@@ -100,7 +109,7 @@ impl Table {
         if let Some(name) = exports::conflict(&exports, &more) {
             return Err(fault::conflict(name));
         }
-        let exports = exports::join(exports, more)?;
+        let exports = exports::join(more, exports)?;
         rows.append(&mut more_rows)?;
         Ok(Table { exports, rows })
     }
@@ -166,7 +175,8 @@ impl Table {
         let Some(target) = exports.get(name).copied() else {
             return Err(fault::no_definition(name));
         };
-        marks::rewrite(&Bind { name, target }, &mut rows)?;
+        let frozen = Bind { name, target };
+        marks::rewrite(&frozen, &mut rows)?;
         Ok(Table { exports, rows })
     }
 
@@ -184,7 +194,8 @@ impl Table {
         let Some(target) = exports.swap_remove(name) else {
             return Err(fault::no_definition(name));
         };
-        marks::rewrite(&Bind { name, target }, &mut rows)?;
+        let hidden = Bind { name, target };
+        marks::rewrite(&hidden, &mut rows)?;
         Ok(Table { exports, rows })
     }
 

@@ -4,7 +4,7 @@ use Rattle.omos_model.specs.FirstRefusal.{conflict}
 use Rattle.omos_model.specs.declared.refusal.Refusal.TheVariants as refusal
 use Rattle.module_table.specs.declared.fault.TableFault.TheVariants.{Conflict}
 use Rattle.module_table.proofs.Standing.{stands_as}
-use Rattle.module_table.proofs.Merging.{conflict_as, no_conflict, tells_answer}
+use Rattle.module_table.proofs.Merging.{conflict_as, tells_answer}
 use Rattle.module_table.proofs.table.Table.merge.Goals as goal
 
 pub returns-in-Some : goal.returns-in-Some
@@ -20,7 +20,7 @@ returns c s l r standing standing2 =
     let sr = stands_as r _ _ c.right.view_is standing2 in
     let none : conflict l r ≡ None = sym (conflict_as _ _ l r None sl sr c.in_default.ensures) in (
       record {
-        names = λ n. c.in_ok-exports.ensures n ∙ (λ i. option_or (sr.names n i) (sl.names n i)) ∙ no_conflict l r n none;
+        names = λ n. c.in_ok-exports.ensures n ∙ (λ i. option_or (sl.names n i) (sr.names n i));
         rows = c.in_ok-append.ensures.items ∙ (λ i. sl.rows i ++ sr.rows i);
       },
       ap (option_map (refusal.Conflict s)) none,
