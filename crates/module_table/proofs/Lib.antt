@@ -1,0 +1,5 @@
+pub mod Exported
+pub mod Keys
+pub mod Held
+pub mod Standing
+pub mod Merging

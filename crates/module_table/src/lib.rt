@@ -1,0 +1,15 @@
+//! Tables of what a module defines and of its references, rewritten whole by each operator.
+//!
+//! A table stands for a module's term; nothing here expands a blueprint or looks below an operator.
+#![tactic(auto)]
+
+mod exports;
+mod fault;
+mod marks;
+mod names;
+mod refusals;
+mod rules;
+mod table;
+
+pub use fault::TableFault;
+pub use table::Table;
