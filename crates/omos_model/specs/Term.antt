@@ -1,4 +1,4 @@
--- Modules as terms (after Bracha's Jigsaw): objects under operators.
+-- Modules as terms: objects under operators.
 use Rattle.std.specs.Prelude.{ℕ, List, [], ◌∷◌, ◌++◌}
 use Rattle.omos_model.specs.FragmentParts.{FragmentParts}
 use Rattle.omos_model.specs.Op.{Op}
