@@ -12,13 +12,14 @@ use Rattle.omos_model.specs.Namespace.{Space, with_entry}
 use Rattle.omos_model.specs.declared.entry.Stamped.{Stamped}
 use Rattle.name_tree.specs.Order.{IsInOrder}
 
-abbrev paths : Space → List Name
+abbrev pub paths : Space → List Name
 paths ns = map (λ s. s.path) ns
 
-abbrev Above : Name → List Name → Type 0
+-- the path is below all of these
+abbrev pub Above : Name → List Name → Type 0
 Above p ps = AllByRecursion (λ q. name_cmp p q ≡ Less) ps
 
-above-trans : (p q : Name) (ps : List Name) → name_cmp p q ≡ Less → Above q ps → Above p ps
+pub above-trans : (p q : Name) (ps : List Name) → name_cmp p q ≡ Less → Above q ps → Above p ps
 above-trans p q [] e h = tt
 above-trans p q (x ∷ xs) e h = (nat_list_cmp_total.trans p q x e h.0, above-trans p q xs e h.1)
 
@@ -43,7 +44,10 @@ IsInOrder-with_entry (x ∷ xs) s h =
         → IsInOrder (match_ordering o (s ∷ x ∷ xs) (s ∷ xs) (x ∷ with_entry xs s))
     go Less e i = ((e, above-trans s.path x.path (paths xs) e h.0), h)
     go Equal e i = (subst (λ p. Above p (paths xs)) (sym (exact_bytes s.path x.path e)) h.0, h.1)
-    go Greater e i = (above-with_entry x.path xs s (nat_list_cmp_total.antisymm x.path s.path ∙ ap ordering_reverse e) h.0, i)
+    go Greater e i = (
+      above-with_entry x.path xs s (nat_list_cmp_total.antisymm x.path s.path ∙ ap ordering_reverse e) h.0,
+      i,
+    )
 
 pub IsInOrder-nil : IsInOrder []
 unfolding IsStrictlySortedBy

@@ -1,8 +1,7 @@
 -- The place of a path, and what a search and a new entry do there.
 use Rattle.std.proofs.Common.{ℕ, zero, suc, ◌<◌, ◌≤◌, ◌==◌, length, get_or, arith, ◌≡◌, Bool, true, false}
-use Rattle.std.proofs.Common.{List, [], ◌∷◌, ◌++◌, Option, Some, None, refl, sym, ap, ◌∙◌, cond, map}
+use Rattle.std.proofs.Common.{[], ◌∷◌, ◌++◌, Some, None, refl, sym, ap, ◌∙◌, cond}
 use Rattle.std.proofs.Common.{take, drop, true≢false}
-use Rattle.std.specs.List.{AllByRecursion}
 use Rattle.std.specs.List.Sorted.{IsStrictlySortedBy}
 use Rattle.std.specs.Ordering.{match_ordering, is_eq, is_lt, ordering_reverse}
 use Rattle.std.specs.declared.cmp.Ordering.{Ordering}
@@ -14,7 +13,9 @@ use Rattle.omos_model.specs.Namespace.{Space, look_up, with_entry}
 use Rattle.omos_model.specs.declared.entry.Stamped.{Stamped}
 use Rattle.omos_model.proofs.Names.{is_eq-name_cmp}
 use Rattle.name_tree.specs.Order.{IsInOrder, place}
+use Rattle.name_tree.proofs.Orders.{Above, above-trans, paths}
 
+-- the order of two paths, turned
 turned : (p q : Name) (o : Ordering) → name_cmp p q ≡ o → name_cmp q p ≡ ordering_reverse o
 turned p q o e = nat_list_cmp_total.antisymm q p ∙ ap ordering_reverse e
 
@@ -53,11 +54,12 @@ place-le (x ∷ xs) p (suc k) d lt h =
     go Greater i = omega arith
 
 above-at : (p : Name) (ns : Space) (k : ℕ) (d : Stamped) → k < length ns
-    → AllByRecursion (λ q. name_cmp p q ≡ Less) (map (λ s. s.path) ns)
+    → Above p (paths ns)
     → name_cmp p (get_or ns k d).path ≡ Less
 above-at p [] k d lt h = absurd (omega arith)
 above-at p (x ∷ xs) zero d lt h = h.0
-above-at p (x ∷ xs) (suc k) d lt h = let below : k < length xs = omega arith in above-at p xs k d below h.1
+above-at p (x ∷ xs) (suc k) d lt h =
+    let below : k < length xs = omega arith in above-at p xs k d below h.1
 
 -- an entry that is below the path stands before its place
 pub lt-place : (ns : Space) (p : Name) (k : ℕ) (d : Stamped) → IsInOrder ns → k < length ns
@@ -99,18 +101,14 @@ look_up-drop (x ∷ xs) p = go (name_cmp p x.path) refl (look_up-drop xs p)
     go Equal e i = refl
     go Greater e i = i ∙ ap (λ b. cond b (Some x) (look_up xs p)) (sym (apart p x.path e))
 
-none_above : (p : Name) (ns : Space) → AllByRecursion (λ q. name_cmp p q ≡ Less) (map (λ s. s.path) ns)
+none_above : (p : Name) (ns : Space) → Above p (paths ns)
     → look_up ns p ≡ None
 none_above p [] h = refl
 none_above p (x ∷ xs) h =
     let e : same_name p x.path ≡ false = sym (is_eq-name_cmp p x.path) ∙ ap is_eq h.0 in
     rw e (none_above p xs h.1)
 
-above-trans : (p q : Name) (ps : List Name) → name_cmp p q ≡ Less
-    → AllByRecursion (λ r. name_cmp q r ≡ Less) ps → AllByRecursion (λ r. name_cmp p r ≡ Less) ps
-above-trans p q [] e h = tt
-above-trans p q (x ∷ xs) e h = (nat_list_cmp_total.trans p q x e h.0, above-trans p q xs e h.1)
-
+-- a list that isn't empty has a first element
 pub is_some : (n : ℕ) (b : Bool) → b ≡ (n == 0) → b ≡ false → 0 < n
 is_some zero b e h = absurd (true≢false (sym e ∙ h))
 is_some (suc n) b e h = omega arith
@@ -118,7 +116,9 @@ is_some (suc n) b e h = omega arith
 pub look_up-empty : (ns : Space) (b : Bool) (p : Name) → b ≡ (length ns == 0) → b ≡ true
     → None ≡ look_up ns p
 look_up-empty [] b p e h = refl
-look_up-empty (x ∷ xs) b p e h = let z : suc (length xs) ≡ 0 = eqb-true (suc (length xs)) 0 (sym e ∙ h) in absurd (omega (arith, z))
+look_up-empty (x ∷ xs) b p e h =
+    let z : suc (length xs) ≡ 0 = eqb-true (suc (length xs)) 0 (sym e ∙ h) in
+    absurd (omega (arith, z))
 
 -- where no entry is below the path, it has the first or none
 pub look_up-same : (ns : Space) (p : Name) (x d : Stamped) → 0 < length ns → x ≡ get_or ns 0 d
@@ -156,7 +156,9 @@ with_entry-drop (x ∷ xs) s = go (name_cmp s.path x.path) refl (with_entry-drop
 pub with_entry-empty : (ns : Space) (b : Bool) (s : Stamped) → b ≡ (length ns == 0) → b ≡ true
     → with_entry ns s ≡ s ∷ ns
 with_entry-empty [] b s e h = refl
-with_entry-empty (x ∷ xs) b s e h = let z : suc (length xs) ≡ 0 = eqb-true (suc (length xs)) 0 (sym e ∙ h) in absurd (omega (arith, z))
+with_entry-empty (x ∷ xs) b s e h =
+    let z : suc (length xs) ≡ 0 = eqb-true (suc (length xs)) 0 (sym e ∙ h) in
+    absurd (omega (arith, z))
 
 -- where no entry is below its path, it replaces the first or comes before it
 pub with_entry-same : (ns : Space) (p : Name) (d s : Stamped) → 0 < length ns

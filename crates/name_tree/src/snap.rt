@@ -57,7 +57,8 @@ impl Snap {
 
     /// What stands under a path.
     ///
-    /// It costs as many comparisons of paths as the number of entries has binary digits.
+    /// The search goes by halves: it compares the path with at most as many others as the count of
+    /// entries has binary digits, and one more.
     pub fn get(&self, path: &PathName) -> Option<&Stamped>
         ensures { option_copied result ≡ look_up self.now path.now }
     {
@@ -66,8 +67,7 @@ impl Snap {
 
     /// The version with this entry under its path, and all others as they are here.
     ///
-    /// It copies the list of entries, whose blueprints and objects are shared: its cost is that of
-    /// all paths.
+    /// It costs a copy of every path; the blueprints and objects are shared and not copied.
     pub fn with(&self, path: PathName, stamp: u64, entry: Shared<Entry>) -> Result<Snap, NoMemory>
         ensures { IfOk result (λ s. s
             ≡ with_entry self.now (record { path = path; stamp = stamp; entry = entry })) }

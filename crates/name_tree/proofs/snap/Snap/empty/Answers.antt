@@ -1,4 +1,3 @@
-use Rattle.std.proofs.Common.{◌∙◌}
 use Rattle.name_tree.proofs.Orders.{IsInOrder-nil}
 use Rattle.name_tree.proofs.snap.Snap.empty.Goals as goal
 
