@@ -80,7 +80,8 @@ fn bears(mark: Mark, file: &[u8], section: usize) -> bool
 fn only_marked(file: &[u8], mark: Mark) -> Option<usize>
     requires { IsObject file.now }
     ensures { MatchOption result
-        ((k : ℕ) → IsOnly (Bears mark file.now) file.now k → ⊥) (IsOnly (Bears mark file.now) file.now) }
+        ((k : ℕ) → IsOnly (Bears mark file.now) file.now k → ⊥)
+        (IsOnly (Bears mark file.now) file.now) }
 {
     let mut found = None;
     for section in 1..section_count(file) {
@@ -109,7 +110,8 @@ fn all_plain(file: &[u8], table: usize) -> bool
 /// The numbers of the code and of the symbol table of an object of the first form.
 fn first_sections(file: &[u8]) -> Option<(usize, usize)>
     requires { IsObject file.now }
-    ensures { MatchOption result (IsFirstForm file.now → ⊥) (λ found. IsFirst file.now found.0 found.1) }
+    ensures { MatchOption result (IsFirstForm file.now → ⊥)
+        (λ found. IsFirst file.now found.0 found.1) }
 {
     let code = only_marked(file, Mark::Allocated)?;
     let table = only_marked(file, Mark::SymbolTable)?;

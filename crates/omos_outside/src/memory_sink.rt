@@ -84,7 +84,8 @@ impl Sink for MemorySink {
     fn write(&mut self, piece: &[u8]) -> Took
         requires { 0 < length piece.now }
         ensures room { FitsPiece result (length piece.now) }
-        ensures held { Appends (Some self.old.held) (Some self.new.held) (accepted result piece.now) }
+        ensures held { Appends (Some self.old.held) (Some self.new.held)
+            (accepted result piece.now) }
         ensures later { self.old.faults ≤ self.new.faults }
         ensures failed { result ≡ Took.Failed → Rose self.old.faults self.new.faults }
 

@@ -81,7 +81,8 @@ fn pad(bytes: &mut Bytes, size: usize) -> Result<(), NoMemory>
 /// headers before it, and the zeros behind it.
 pub(crate) fn frame_of(alloc: Global, code: &[u8], start: u32) -> Result<(Bytes, Bytes), NoMemory>
     requires few { length code.now ≤ 1048576 }
-    ensures { IfOk result (λ frame. image_of_code code.now start ≡ (frame.0 ++ code.now) ++ frame.1) }
+    ensures { IfOk result (λ frame.
+        image_of_code code.now start ≡ (frame.0 ++ code.now) ++ frame.1) }
 {
     let mut head = Bytes::with_capacity(alloc, PAGE)?;
     push_file_header(&mut head, BASE + u64::from(start))?;

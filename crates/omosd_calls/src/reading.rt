@@ -30,7 +30,8 @@ fn read_behind<S: Source>(source: &mut S, bytes: &mut [u8], place: usize) -> Got
     requires { place < length bytes.old }
     ensures room { FitsRoom result (length bytes.old - place) }
     ensures kept { take place bytes.new ≡ take place bytes.old }
-    ensures told { Gives (S.told source.old) (S.told source.new) (taken result (drop place bytes.new)) }
+    ensures told { Gives (S.told source.old) (S.told source.new)
+        (taken result (drop place bytes.new)) }
     ensures end { result ≡ Got.End → IsAtEnd (S.told source.new) }
     ensures later { S.faults source.old ≤ S.faults source.new }
     ensures failed { result ≡ Got.Failed → Rose (S.faults source.old) (S.faults source.new) }
@@ -42,7 +43,8 @@ fn read_behind<S: Source>(source: &mut S, bytes: &mut [u8], place: usize) -> Got
 fn read_piece<S: Source>(source: &mut S, file: &mut Vec<u8>, room: usize) -> Result<Got, NoMemory>
     requires some { 0 < room }
     requires fits { vec_len file.old + room < 2 ^ 64 }
-    ensures read { IfOk result (HasMore (S.told source.old) (S.told source.new) file.old.items file.new.items room) }
+    ensures read { IfOk result
+        (HasMore (S.told source.old) (S.told source.new) file.old.items file.new.items room) }
     ensures later { S.faults source.old ≤ S.faults source.new }
     ensures failed { result ≡ Ok Got.Failed → Rose (S.faults source.old) (S.faults source.new) }
 {
@@ -60,7 +62,8 @@ fn read_piece<S: Source>(source: &mut S, file: &mut Vec<u8>, room: usize) -> Res
 pub(crate) fn read_file<S: Source>(alloc: Global, source: &mut S) -> Result<Bytes, Unread>
     ensures input { IfOk result (IsInput (S.told source.old) (S.told source.new)) }
     ensures later { S.faults source.old ≤ S.faults source.new }
-    ensures failed { result ≡ Err Unread.SourceFailed → Rose (S.faults source.old) (S.faults source.new) }
+    ensures failed { result ≡ Err Unread.SourceFailed
+        → Rose (S.faults source.old) (S.faults source.new) }
 {
     let Ok(mut file) = Vec::with_capacity(alloc, LIMIT) else {
         return Err(Unread::NoMemory);
