@@ -108,9 +108,11 @@ abbrev pub linked_image : Name → ℕ → ℕ → List ℕ → List Stamped →
 linked_image path base pages bytes footprint =
     record { path = path; base = base; pages = pages; bytes = bytes; footprint = footprint }
 
--- the bytes are the answer on the namespace that the footprint lists, and the pages the plan's
+-- the bytes are the answer on the namespace that the footprint lists, the pages the plan's, and the
+-- footprint the path's
 pub record IsLinked (x : LinkedImage) : Type 0 where
   pub plan : Plan
   pub planned : plan_of x.footprint x.path ≡ Ok plan
   pub pages : x.pages ≡ plan.pages
   pub answered : answer x.footprint x.path x.base ≡ Ok x.bytes
+  pub listed : footprint x.footprint x.path ≡ Some x.footprint

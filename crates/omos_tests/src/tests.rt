@@ -1,9 +1,6 @@
 //! The tests, by subject.
 
 mod names;
-mod plain;
-mod tables;
-mod versions;
 
 use elf_object::{Early, first_form};
 use omos_base::{Bytes, Row, put_u16, put_u32, put_u64, u16_at, u32_at, u64_at};
