@@ -11,7 +11,7 @@ help:
 
 build:
 	@command -v rt >/dev/null || { echo "make: rt is missing: install the Rattle kit and put its bin/ on the PATH" >&2; exit 1; }
-	@echo "Proving and building omosd. The first time this takes three to six minutes, later seconds."
+	@echo "Proving and building omosd. The first time this takes some six minutes on four processors, later seconds."
 	@cd crates/omosd && rt run -- --version > out.log 2>&1 || { tail -n 20 out.log; exit 1; }
 	@rm -f crates/omosd/out.log
 	@echo "The proved program is $(OMOSD)."
