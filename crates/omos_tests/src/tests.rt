@@ -1,5 +1,6 @@
 //! The tests, by subject.
 
+mod fragments;
 mod names;
 
 use elf_object::{Early, first_form};
