@@ -1,6 +1,7 @@
 -- Evaluated modules, their layout and their images, as values of the types that keep them.
-use Rattle.std.specs.Prelude.{◌≡◌, ℕ, List, [], map, Option, Some, None, Ok, slice_get, unwrap_or}
-use Rattle.std.specs.List.{find}
+use Rattle.std.specs.Prelude.{◌≡◌, ℕ, List, [], map, Option, Some, None, Result, Ok, slice_get}
+use Rattle.std.specs.Prelude.{unwrap_or}
+use Rattle.std.specs.List.{find, zip}
 use Rattle.std.specs.Option.{option_map}
 use Rattle.omos_model.specs.Names.{Name, same_name}
 use Rattle.omos_model.specs.Namespace.{look_up}
@@ -15,10 +16,11 @@ use Rattle.omos_model.specs.declared.entry.Stamped.{Stamped}
 use Rattle.omos_model.specs.declared.entry.Start.{Start}
 use Rattle.omos_model.specs.declared.mark.Landing.{Landing}
 use Rattle.omos_model.specs.declared.mark.Target.{Target}
+use Rattle.omos_model.specs.declared.refusal.Refusal.{Refusal}
 use Rattle.omos_model.specs.declared.visit.Visit.{Visit}
 use Rattle.link_model.specs.declared.evaluated.Found.{Found}
-use Rattle.link_model.specs.Program.{Terms, landings_of, terms_of}
-use Rattle.link_model.specs.Plan.{Plan, plan_of}
+use Rattle.link_model.specs.Program.{Part, Parts, Terms, landings_of, object_of, terms_of}
+use Rattle.link_model.specs.Plan.{Plan, plan_of, plan_of_parts}
 use Rattle.link_model.specs.Answer.{answer}
 
 -- what contracts see of an evaluated module
@@ -55,6 +57,18 @@ found names n = option_map (λ x. x.target) (find (λ x. same_name n x.name) nam
 
 abbrev pub terms_of_module : Module → Terms
 terms_of_module m = record { start = m.start; lo = m.lo; hi = m.hi }
+
+-- a leaf, and what its references land on
+abbrev pub part_with : Entry × List Landing → Part
+part_with x = record { object = object_of x.0; landings = x.1 }
+
+-- the parts of a module, from left to right
+abbrev pub parts_of_module : Module → Parts
+parts_of_module m = map part_with (zip m.leaves m.landings)
+
+-- the plan of a module, or the first of L9 to L11
+abbrev pub plan_of_module : Module → Result Plan Refusal
+plan_of_module m = plan_of_parts (parts_of_module m) (found m.names) (terms_of_module m)
 
 -- the module is the path's, on the namespace that its footprint lists, by this term
 pub record IsEvaluation (m : Module) (t : Term) (v : Visit) : Type 0 where

@@ -97,6 +97,14 @@ impl Evaluated {
         &self.landings.as_slice()[leaf as usize].as_slice()[fixup as usize]
     }
 
+    /// What the fixups land on: for each leaf, a landing for each of its fixups, in order.
+    pub fn landings(&self) -> &[Row<Landing>]
+        ensures landings { result.now ≡ self.now.landings }
+        ensures evaluated { IsModule self.now }
+    {
+        self.landings.as_slice()
+    }
+
     /// What a name is defined as, if it is defined. It looks through the defined names.
     pub fn find(&self, name: &SymName) -> Option<Target>
         ensures found { result ≡ found self.now.names name.now }
