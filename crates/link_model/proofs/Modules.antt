@@ -71,17 +71,17 @@ plan-same : (parts : Parts) (u w : Meaning) → ((n : Name) → u n ≡ w n) →
     → plan_of_parts parts u terms ≡ plan_of_parts parts w terms
 plan-same parts u w h terms =
     let plan : Option Refusal → Option Target → Result Plan Refusal =
-        λ refusal entry.
-        unless_refused (option_or (too_large parts) (option_or refusal (unresolved parts)))
-        (record {
-            parts = parts;
-            entry = entry;
-            lo = terms.lo;
-            hi = terms.hi;
-            pages = pages_in_all parts;
-            places = places_of parts;
-            slots = slots_of parts;
-          }) in
+    λ refusal entry.
+    unless_refused (option_or (too_large parts) (option_or refusal (unresolved parts)))
+    (record {
+      parts = parts;
+      entry = entry;
+      lo = terms.lo;
+      hi = terms.hi;
+      pages = pages_in_all parts;
+      places = places_of parts;
+      slots = slots_of parts;
+    }) in
     let same = start-same u w h terms.start in
     ap (λ r. plan r (entry_of u terms.start)) same.0 ∙ ap (plan (no_start w terms.start)) same.1
 
@@ -91,9 +91,9 @@ own_plan_law m h =
     let e = h.2 in
     let terms = terms_of_module m in
     let parts : parts_of_term t ≡ parts_of_module m =
-        parts-same t (states t)
-        ∙ ap (λ (es : List Entry). map part_with (zip es (map (landings_of t) (states t)))) (sym e.leaves)
-        ∙ ap (λ (ls : List (List Landing)). map part_with (zip m.leaves ls)) (sym e.landings) in
+    parts-same t (states t)
+    ∙ ap (λ (es : List Entry). map part_with (zip es (map (landings_of t) (states t)))) (sym e.leaves)
+    ∙ ap (λ (ls : List (List Landing)). map part_with (zip m.leaves ls)) (sym e.landings) in
     ap (λ x. plan_of_expansion x (terms_at (option_map (λ (s : Stamped). terms_of s.entry) (look_up m.footprint m.path)))) e.expanded
     ∙ ap (λ x. plan_of_term (first_refusal t) t (terms_at x)) e.terms
     ∙ ap (λ x. plan_of_term x t terms) e.unrefused
