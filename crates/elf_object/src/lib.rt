@@ -5,8 +5,12 @@
 
 mod first;
 mod header;
+mod kept;
+mod reads;
 mod section;
 mod symbol;
+mod tables;
 mod tests_of;
 
 pub use first::{Early, First, first_form};
+pub use tables::Tables;
