@@ -12,14 +12,21 @@ ghost use Rattle.elf_object.specs.Checks.{fails};
 use crate::reads::{count_of_sections, ends_within, section};
 
 const SHF_WRITE: u64 = 1;
+
 const SHF_ALLOC: u64 = 2;
+
 const SHF_EXECINSTR: u64 = 4;
+
 const SHF_TLS: u64 = 0x400;
+
 const SHF_COMPRESSED: u64 = 0x800;
 
 const SHT_NOBITS: u32 = 8;
+
 const SHT_REL: u32 = 9;
+
 const SHT_GROUP: u32 = 17;
+
 const SHT_SYMTAB_SHNDX: u32 = 18;
 
 /// PROGBITS, NOTE, NOBITS, INIT_ARRAY, FINI_ARRAY and X86_64_UNWIND.
@@ -28,9 +35,7 @@ const LOADED_TYPES: [u32; 6] = [1, 7, 8, 14, 15, 0x7000_0001];
 /// The largest kept section, in bytes.
 const MAX_SIZE: u64 = 8_388_608;
 
-const ALIGNMENTS: [u64; 13] = [
-    1, 2, 4, 8, 16, 32, 64, 128, 256, 512, 1024, 2048, 4096,
-];
+const ALIGNMENTS: [u64; 13] = [1, 2, 4, 8, 16, 32, 64, 128, 256, 512, 1024, 2048, 4096];
 
 /// The flag, which is a power of two, is set.
 fn has(flags: u64, flag: u64) -> bool

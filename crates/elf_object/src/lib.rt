@@ -6,6 +6,7 @@
 mod first;
 mod header;
 mod kept;
+mod read;
 mod reads;
 mod section;
 mod symbol;
@@ -13,4 +14,5 @@ mod tables;
 mod tests_of;
 
 pub use first::{Early, First, first_form};
+pub use read::read_tables;
 pub use tables::Tables;

@@ -119,8 +119,10 @@ pub(crate) fn rest_from(bytes: &[u8], place: u32) -> &[u8]
 pub(crate) fn until_zero(bytes: &[u8]) -> &[u8]
     ensures { result.now ≡ take_while (λ b. not (b == 0)) bytes.now }
 {
-    match bytes.iter().position(|b| *b == 0) {
-        Some(end) => &bytes[..end],
-        None => bytes,
+    for (end, byte) in bytes.iter().enumerate() {
+        if *byte == 0 {
+            return &bytes[..end];
+        }
     }
+    bytes
 }

@@ -54,6 +54,7 @@ impl Tables<'_> {
     pub fn sections(&self) -> u32
         ensures count { result ≡ e_shnum self.now }
         ensures few { result ≤ 4096 }
+        ensures right { object_fault self.now ≡ None }
     {
         count_of_sections(self.file) as u32
     }
@@ -87,7 +88,8 @@ impl Tables<'_> {
 
     /// How many symbols there are, symbol 0 among them, and 0 without a symbol table.
     pub fn symbols(&self) -> u32
-        ensures { result ≡ symbol_count self.now }
+        ensures count { result ≡ symbol_count self.now }
+        ensures right { object_fault self.now ≡ None }
     {
         self.count
     }
