@@ -1,7 +1,7 @@
 -- How far the reading of a file has come.
 use Rattle.std.specs.Prelude.{◌≡◌, ℕ, ◌+◌, ◌*◌, ◌<◌, ◌≤◌, ◌&&◌, nat_le, true, false, List, length}
-use Rattle.omos_model.specs.ElfFields.{e_shnum, e_shoff}
-use Rattle.omos_model.specs.ElfFaults.{has_headers, is_elf, is_relocatable}
+use Rattle.omos_model.specs.ElfFields.{e_shnum, e_shoff, symtabs}
+use Rattle.omos_model.specs.ElfFaults.{are_right_symtabs, has_headers, is_elf, is_relocatable}
 use Rattle.omos_model.specs.declared.refusal.ObjectFault.{ObjectFault}
 use Rattle.omos_model.specs.declared.refusal.ObjectFault.TheVariants as fault
 
@@ -28,3 +28,7 @@ IsHeaderFault file fault.Kind =
 IsHeaderFault file fault.Headers =
     IsSized file × (is_elf file ≡ true) × (is_relocatable file ≡ true) × (has_headers file ≡ false)
 IsHeaderFault file _ = ⊥
+
+-- the symbol table is wrong, or there are two
+abbrev pub IsSymbolsFault : List ℕ → ObjectFault → Type 0
+IsSymbolsFault file x = (x ≡ fault.Symbols) × (are_right_symtabs file (symtabs file) ≡ false)

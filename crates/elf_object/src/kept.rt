@@ -2,7 +2,7 @@
 
 ghost use Rattle.std.specs.Prelude.{◌≡◌, ◌<◌, ◌≤◌, ◌/◌, ◌%◌, ◌==◌, [], ◌∷◌};
 ghost use Rattle.std.specs.List.{find, list_any};
-ghost use Rattle.omos_model.specs.ElfFields.{e_shnum, has_flag, sections};
+ghost use Rattle.omos_model.specs.ElfFields.{e_shnum, has_flag, is_section, sections};
 ghost use Rattle.omos_model.specs.ElfFaults.{is_alloc, is_kept, is_nobits, is_supported};
 ghost use Rattle.omos_model.specs.ElfFaults.{is_unsupported, is_wrong_section, lies_in_file, loaded_types};
 ghost use Rattle.omos_model.specs.FragmentParts.{is_alignment};
@@ -58,6 +58,14 @@ pub(crate) fn is_alignment(align: u64) -> bool
     ALIGNMENTS.iter().any(|a| *a == align)
 }
 
+/// A section's number; section 0 is none.
+pub(crate) fn is_section(file: &[u8], i: usize) -> bool
+    requires { HasHeaders file.now }
+    ensures { result ≡ is_section file.now i }
+{
+    0 < i && i < count_of_sections(file)
+}
+
 fn is_alloc(file: &[u8], i: usize) -> bool
     requires headers { HasHeaders file.now }
     requires there { i < e_shnum file.now }
@@ -84,7 +92,7 @@ pub(crate) fn is_kept(file: &[u8], i: usize) -> bool
     requires { HasHeaders file.now }
     ensures { result ≡ is_kept file.now i }
 {
-    0 < i && i < count_of_sections(file) && is_alloc(file, i) && is_supported(file, i)
+    is_section(file, i) && is_alloc(file, i) && is_supported(file, i)
 }
 
 pub(crate) fn is_nobits(file: &[u8], i: usize) -> bool

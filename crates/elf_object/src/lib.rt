@@ -10,6 +10,8 @@ mod read;
 mod reads;
 mod section;
 mod symbol;
+mod symbols;
+mod symtab;
 mod tables;
 mod tests_of;
 

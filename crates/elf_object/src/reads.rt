@@ -1,7 +1,7 @@
 //! Single fields of a file, and the tests of its header that decide whether it is an object.
 
-ghost use Rattle.std.specs.Prelude.{◌≡◌, ◌<◌, ◌≤◌, ◌+◌, ◌*◌, ◌/◌, ◌%◌, ◌==◌, length, not, drop, MatchOption, nat_le, true};
-ghost use Rattle.std.specs.List.{list_any, take_while};
+ghost use Rattle.std.specs.Prelude.{◌≡◌, ◌<◌, ◌≤◌, ◌+◌, ◌*◌, ◌/◌, ◌%◌, ◌==◌, length, MatchOption, nat_le, true};
+ghost use Rattle.std.specs.List.{list_any};
 ghost use Rattle.omos_base.specs.Fields.{number_at};
 ghost use Rattle.omos_model.specs.ElfFields.{e_shnum, header_at, section_bytes};
 ghost use Rattle.omos_model.specs.ElfFaults.{has_headers, is_elf, is_relocatable, lies_in_file};
@@ -105,24 +105,4 @@ pub(crate) fn bytes_of(file: &[u8], number: usize) -> &[u8]
     let header = section(file, number);
     let from = header.sh_offset as usize;
     &file[from..from + header.sh_size as usize]
-}
-
-/// What stands from a place on, nothing where that is behind the end.
-pub(crate) fn rest_from(bytes: &[u8], place: u32) -> &[u8]
-    ensures { result.now ≡ drop place bytes.now }
-{
-    let start = (place as usize).min(bytes.len());
-    &bytes[start..]
-}
-
-/// What stands before the first zero byte, or all where there is none.
-pub(crate) fn until_zero(bytes: &[u8]) -> &[u8]
-    ensures { result.now ≡ take_while (λ b. not (b == 0)) bytes.now }
-{
-    for (end, byte) in bytes.iter().enumerate() {
-        if *byte == 0 {
-            return &bytes[..end];
-        }
-    }
-    bytes
 }

@@ -4,7 +4,7 @@ ghost use Rattle.std.specs.Prelude.{◌≡◌, ◌+◌, ◌*◌, ◌/◌, ◌<�
 ghost use Rattle.omos_base.specs.Fault.{MatchFault};
 ghost use Rattle.omos_model.specs.Names.{is_symbol_name};
 ghost use Rattle.omos_model.specs.ElfFields.{e_shnum, entry_at, header_at, name_of, section_bytes};
-ghost use Rattle.omos_model.specs.ElfFields.{is_section, symbol_at, symbol_count};
+ghost use Rattle.omos_model.specs.ElfFields.{is_section, st_info, symbol_at, symbol_count};
 ghost use Rattle.omos_model.specs.ElfFaults.{entry_count, has_name, is_kept, is_nobits, is_used_rela};
 ghost use Rattle.omos_model.specs.ElfFaults.{object_fault};
 ghost use Rattle.elf_words.specs.Rela.{rela_at};
@@ -12,7 +12,9 @@ ghost use Rattle.elf_words.specs.Shdr.{shdr_at};
 ghost use Rattle.elf_words.specs.Sym.{sym_at};
 
 use crate::kept::{is_kept, is_nobits};
-use crate::reads::{bytes_of, count_of_sections, rest_from, section, until_zero};
+use crate::reads::{bytes_of, count_of_sections, section};
+use crate::symbols::{name_at, symbol};
+use crate::symtab::Symbols;
 use elf_words::{Record, Rela, Shdr, Sym};
 use std::marker::Model;
 
@@ -21,12 +23,7 @@ use std::marker::Model;
 #[derive(Drop)]
 pub struct Tables<'a> {
     file: &'a [u8],
-    /// How many symbols there are.
-    count: u32,
-    /// Where symbol 0 begins.
-    symbols_at: usize,
-    /// The string table of the symbols.
-    strings: &'a [u8],
+    symbols: Symbols<'a>,
 }
 
 impl<'a> Model for Tables<'a> {
@@ -38,7 +35,8 @@ impl<'a> Model for Tables<'a> {
 
     ghost view = { λ t. t.file.now };
 
-    ghost invariant = { λ t. AreTables t.file.now t.count t.symbols_at t.strings.now };
+    ghost invariant = { λ t.
+        AreTables t.file.now t.symbols.count t.symbols.at t.symbols.strings.now };
 }
 
 impl Tables<'_> {
@@ -91,15 +89,16 @@ impl Tables<'_> {
         ensures count { result ≡ symbol_count self.now }
         ensures right { object_fault self.now ≡ None }
     {
-        self.count
+        self.symbols.count
     }
 
     /// A symbol.
     pub fn symbol(&self, k: u32) -> Sym
         requires { k < symbol_count self.now }
-        ensures { result ≡ sym_at self.now (symbol_at self.now k) }
+        ensures read { result ≡ sym_at self.now (symbol_at self.now k) }
+        ensures info { result.st_info ≡ st_info self.now k }
     {
-        Sym::read_at(self.file, self.symbols_at + 24 * k as usize)
+        symbol(self.file, self.symbols, k)
     }
 
     /// The name of a GLOBAL or WEAK symbol, which is a symbol name. It costs the name's bytes.
@@ -110,8 +109,8 @@ impl Tables<'_> {
         ensures name { result.now ≡ name_of self.now k }
         ensures lawful { IsTrue (is_symbol_name result.now) }
     {
-        let symbol = Sym::read_at(self.file, self.symbols_at + 24 * k as usize);
-        until_zero(rest_from(self.strings, symbol.st_name))
+        let symbol = symbol(self.file, self.symbols, k);
+        name_at(self.symbols, symbol.st_name)
     }
 
     /// Whether a section has relocations of a kept section.
