@@ -6,6 +6,7 @@
 mod first;
 mod header;
 mod kept;
+mod names;
 mod read;
 mod reads;
 mod section;

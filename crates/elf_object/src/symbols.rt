@@ -1,11 +1,10 @@
-//! Symbols and their names (System V gABI, chapter 4, "Symbol Table"), and what is wrong with one.
+//! Symbols (System V gABI, chapter 4, "Symbol Table"), and which is the first that is wrong.
 
-ghost use Rattle.std.specs.Prelude.{◌≡◌, ◌+◌, ◌*◌, ◌/◌, ◌%◌, ◌<◌, ◌≤◌, ◌==◌, ◌&&◌, ◌||◌, not, drop, length, nat_le, nat_lt, IsTrue};
+ghost use Rattle.std.specs.Prelude.{◌≡◌, ◌+◌, ◌*◌, ◌/◌, ◌%◌, ◌<◌, ◌≤◌, ◌==◌, ◌&&◌, ◌||◌, not, drop, nat_le};
 ghost use Rattle.std.specs.List.{find, list_any, take_while};
-ghost use Rattle.omos_base.specs.Fields.{number_at};
 ghost use Rattle.omos_model.specs.Names.{is_symbol_name};
 ghost use Rattle.omos_model.specs.FragmentParts.{is_alignment, max_size};
-ghost use Rattle.omos_model.specs.ElfFields.{e_shnum, is_section, name_of, name_bytes, sh_size};
+ghost use Rattle.omos_model.specs.ElfFields.{is_section, sh_size};
 ghost use Rattle.omos_model.specs.ElfFields.{st_info, symbol_at, symbols};
 ghost use Rattle.omos_model.specs.ElfFaults.{abs, common, is_kept, is_wrong_symbol, undef};
 ghost use Rattle.elf_words.specs.Sym.{sym_at};
@@ -13,56 +12,34 @@ ghost use Rattle.elf_object.specs.Stages.{HasHeaders};
 ghost use Rattle.elf_object.specs.TablesOf.{AreSymbols};
 
 use crate::kept::{is_alignment, is_kept, is_section};
+use crate::names::{begins_with_name, rest_from};
 use crate::reads::section;
 use crate::symtab::Symbols;
 use elf_words::{Record, Sym};
 
-/// What stands from a place on, nothing where that is behind the end.
-pub(crate) fn rest_from(bytes: &[u8], place: u32) -> &[u8]
-    ensures { result.now ≡ drop place bytes.now }
-{
-    let start = (place as usize).min(bytes.len());
-    &bytes[start..]
-}
-
-/// What stands before the first zero byte, or all where there is none.
-pub(crate) fn until_zero(bytes: &[u8]) -> &[u8]
-    ensures { result.now ≡ take_while (λ b. not (b == 0)) bytes.now }
-{
-    for (end, byte) in bytes.iter().enumerate() {
-        if *byte == 0 {
-            return &bytes[..end];
-        }
-    }
-    bytes
-}
-
-/// The name that begins at a place of the string table.
-pub(crate) fn name_at(symbols: Symbols<'_>, st_name: u32) -> &[u8]
-    ensures { result.now ≡ take_while (λ b. not (b == 0)) (drop st_name symbols.entry.strings.now) }
-{
-    until_zero(rest_from(symbols.strings, st_name))
-}
-
 /// A symbol by its number.
 #[tactic(auto, unfolding(omos_base::specs::Fields::number_at))]
-pub(crate) fn symbol(file: &[u8], symbols: Symbols<'_>, k: u32) -> Sym
-    requires table { AreSymbols file.now symbols.count symbols.at symbols.strings.now }
-    requires there { k < symbols.count }
+pub(crate) fn symbol(file: &[u8], table: Symbols<'_>, k: u32) -> Sym
+    requires right { AreSymbols file.now table.count table.at table.strings.now }
+    requires there { k < table.count }
     ensures read { result ≡ sym_at file.now (symbol_at file.now k) }
     ensures info { result.st_info ≡ st_info file.now k }
 {
-    Sym::read_at(file, symbols.at + 24 * k as usize)
+    Sym::read_at(file, table.at + 24 * k as usize)
 }
 
 const STB_LOCAL: u8 = 0;
+
 const STB_GLOBAL: u8 = 1;
+
 const STB_WEAK: u8 = 2;
 
 const STT_COMMON: u8 = 5;
 
 const SHN_UNDEF: u16 = 0;
+
 const SHN_ABS: u16 = 0xfff1;
+
 const SHN_COMMON: u16 = 0xfff2;
 
 /// The largest common symbol, in bytes.
@@ -106,4 +83,43 @@ fn has_right_common(index: u16, value: u64, size: u64) -> bool
         || ((value == 0 || is_alignment value) && nat_le size max_size)) }
 {
     index != SHN_COMMON || ((value == 0 || is_alignment(value)) && size <= MAX_SIZE)
+}
+
+/// A name of other objects' is a symbol name with a zero byte behind it in the string table.
+fn has_right_name(table: Symbols<'_>, is_named: bool, st_name: u32) -> bool
+    ensures { let bytes = drop st_name table.entry.strings.now in
+        result ≡ (not is_named || (list_any (λ b. b == 0) bytes
+        && is_symbol_name (take_while (λ b. not (b == 0)) bytes))) }
+{
+    !is_named || begins_with_name(rest_from(table.strings, st_name))
+}
+
+fn is_wrong_symbol(file: &[u8], table: Symbols<'_>, k: u32) -> bool
+    requires headers { HasHeaders file.now }
+    requires right { AreSymbols file.now table.count table.at table.strings.now }
+    requires there { k < table.count }
+    ensures { result ≡ is_wrong_symbol file.now k }
+{
+    let symbol = symbol(file, table, k);
+    let binding = symbol.st_info / 16;
+    let is_named = binding == STB_GLOBAL || binding == STB_WEAK;
+    !(has_right_info(symbol.st_info)
+        && has_right_section(file, binding, symbol.st_shndx)
+        && has_right_value(file, is_named, symbol.st_shndx, symbol.st_value)
+        && has_right_common(symbol.st_shndx, symbol.st_value, symbol.st_size)
+        && has_right_name(table, is_named, symbol.st_name))
+}
+
+/// The first symbol that is wrong.
+pub(crate) fn first_wrong(file: &[u8], table: Symbols<'_>) -> Option<u32>
+    requires headers { HasHeaders file.now }
+    requires right { AreSymbols file.now table.count table.at table.strings.now }
+    ensures { result ≡ find (is_wrong_symbol file.now) (symbols file.now) }
+{
+    for k in 1..table.count {
+        if is_wrong_symbol(file, table, k) {
+            return Some(k);
+        }
+    }
+    None
 }

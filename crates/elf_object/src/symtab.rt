@@ -14,6 +14,7 @@ use crate::reads::{bytes_of, count_of_sections, section};
 use omos_model::ObjectFault;
 
 const SHT_SYMTAB: u32 = 2;
+
 const SHT_STRTAB: u32 = 3;
 
 /// The size of a symbol.
@@ -101,7 +102,7 @@ pub(crate) fn symbols_of(file: &[u8]) -> Result<Symbols<'_>, ObjectFault>
     requires { HasHeaders file.now }
     ensures { MatchResult result
         (λ s. AreSymbols file.now s.count s.at s.strings.now
-            × (are_right_symtabs file.now (symtabs file.now) ≡ true))
+        × (are_right_symtabs file.now (symtabs file.now) ≡ true))
         (IsSymbolsFault file.now) }
 {
     let Some(table) = only_symtab(file)? else {

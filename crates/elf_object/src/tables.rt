@@ -12,8 +12,9 @@ ghost use Rattle.elf_words.specs.Shdr.{shdr_at};
 ghost use Rattle.elf_words.specs.Sym.{sym_at};
 
 use crate::kept::{is_kept, is_nobits};
+use crate::names::name_at;
 use crate::reads::{bytes_of, count_of_sections, section};
-use crate::symbols::{name_at, symbol};
+use crate::symbols::symbol;
 use crate::symtab::Symbols;
 use elf_words::{Record, Rela, Shdr, Sym};
 use std::marker::Model;

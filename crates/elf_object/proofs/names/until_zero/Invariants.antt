@@ -1,6 +1,6 @@
 use Rattle.std.proofs.Common.{◌≡◌, ◌+◌, ◌==◌, not, drop}
 use Rattle.std.specs.List.{prefix_len}
-use Rattle.elf_object.proofs.symbols.until_zero.Given as goal
+use Rattle.elf_object.proofs.names.until_zero.Given as goal
 
 -- no byte before the end is zero
 abbrev pub invariant-loop-end : goal.invariant-loop-end
