@@ -8,7 +8,7 @@ use Rattle.omos_model.specs.Names.{is_symbol_name}
 use Rattle.omos_model.specs.ElfFields.{e_shnum, is_section, name_of, sh_offset, sh_size, sh_type}
 use Rattle.omos_model.specs.ElfFields.{symbol_count}
 use Rattle.omos_model.specs.ElfFaults.{has_name, is_kept, is_nobits, is_used_rela, lies_in_file}
-use Rattle.omos_model.specs.ElfFaults.{entry_count, is_right_rela, object_fault, rela}
+use Rattle.omos_model.specs.ElfFaults.{entry_count, is_right_rela, is_wrong_symbol, object_fault, rela}
 use Rattle.omos_model.proofs.RightFile.{IsSectionNumber, IsSymbolNumber, right_file}
 
 -- ---- tests joined
@@ -63,9 +63,14 @@ used_inside file i right section used =
 -- ---- symbols
 
 -- the name of a symbol that has one is a symbol name
+pub lawful_name : (file : List ℕ) (k : ℕ) → is_wrong_symbol file k ≡ false
+    → has_name file k ≡ true → is_symbol_name (name_of file k) ≡ true
+lawful_name file k right has =
+    let all = not-false _ right in
+    (and_parts _ _ (rest_true (not (has_name file k)) _ (and_parts _ _ all).1 (not_from_true _ has))).1
+
 pub named : (file : List ℕ) (k : ℕ) → object_fault file ≡ None → 1 ≤ k → k < symbol_count file
     → has_name file k ≡ true → is_symbol_name (name_of file k) ≡ true
 named file k right low high has =
     let number : IsSymbolNumber file k = record { low = low; high = omega arith } in
-    let all = not-false _ ((right_file file right).symbols k number) in
-    (and_parts _ _ (rest_true (not (has_name file k)) _ (and_parts _ _ all).1 (not_from_true _ has))).1
+    lawful_name file k ((right_file file right).symbols k number) has

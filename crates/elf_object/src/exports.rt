@@ -1,19 +1,21 @@
 //! Names that a file defines for other objects, and the first that it defines twice.
 
-ghost use Rattle.std.specs.Prelude.{◌≡◌, ◌+◌, ◌*◌, ◌<◌, ◌≤◌, [], ◌∷◌, false, true, IfOk, MatchOption, nat_eq};
+ghost use Rattle.std.specs.Prelude.{◌≡◌, ◌+◌, ◌*◌, ◌<◌, ◌≤◌, [], ◌∷◌, false, true, None, IfOk, MatchOption, nat_eq};
 ghost use Rattle.std.specs.Cmp.Lexicographic.{pointwise};
 ghost use Rattle.std.specs.Cmp.Rules.{comparing, hashing};
 ghost use Rattle.std.specs.List.{find};
+ghost use Rattle.std.specs.Option.{option_map};
 ghost use Rattle.std.proofs.Common.{rules};
 ghost use Rattle.omos_model.specs.ElfFields.{name_of, symbols};
-ghost use Rattle.omos_model.specs.ElfFaults.{is_again, is_export};
+ghost use Rattle.omos_model.specs.ElfFaults.{is_again, is_export, is_wrong_symbol};
+ghost use Rattle.omos_model.specs.declared.refusal.ObjectFault.TheVariants.{Twice};
 ghost use Rattle.elf_object.specs.Stages.{HasHeaders};
 ghost use Rattle.elf_object.specs.TablesOf.{AreSymbols};
 
-use crate::names::name_at;
-use crate::symbols::symbol;
+use crate::symbols::{name, symbol};
 use crate::symtab::Symbols;
-use omos_base::NoMemory;
+use omos_base::{Fault, NoMemory, SymName};
+use omos_model::ObjectFault;
 use std::alloc::Global;
 use std::collections::HashSet;
 use std::hash::{Hash, Hasher};
@@ -68,7 +70,7 @@ fn export<'a>(file: &[u8], table: Symbols<'a>, k: u32) -> Option<ExportName<'a>>
     let binding = symbol.st_info / 16;
     if (binding == 1 || binding == 2) && symbol.st_shndx != 0 {
         Some(ExportName {
-            bytes: name_at(table, symbol.st_name),
+            bytes: name(file, table, k),
         })
     } else {
         None
@@ -93,4 +95,25 @@ pub(crate) fn first_again(
         }
     }
     Ok(None)
+}
+
+/// The fault of the first name that is defined twice, where no symbol is wrong by itself.
+pub(crate) fn twice(
+    alloc: Global,
+    file: &[u8],
+    table: Symbols<'_>,
+) -> Result<Option<ObjectFault>, NoMemory>
+    requires right { AreSymbols file.now table.count table.at table.strings.now }
+    requires lawful { find (is_wrong_symbol file.now) (symbols file.now) ≡ None }
+    ensures { IfOk result (λ x. x ≡ option_map (λ k. Twice (name_of file.now k))
+        (find (is_again file.now) (symbols file.now))) }
+{
+    let Some(k) = first_again(alloc, file, table)? else {
+        return Ok(None);
+    };
+    match SymName::read(alloc, name(file, table, k)) {
+        Ok(name) => Ok(Some(ObjectFault::Twice(name))),
+        Err(Fault::Refused(_)) => unreachable!(),
+        Err(Fault::NoMemory) => Err(NoMemory),
+    }
 }

@@ -4,8 +4,6 @@ ghost use Rattle.std.specs.Prelude.{◌≡◌, ◌<◌, ◌≤◌, ◌==◌, ◌
 ghost use Rattle.std.specs.List.{list_any, list_all, prefix_len, take_while};
 ghost use Rattle.omos_model.specs.Names.{is_name_byte, is_symbol_name};
 
-use crate::symtab::Symbols;
-
 /// What stands from a place on, nothing where that is behind the end.
 pub(crate) fn rest_from(bytes: &[u8], place: u32) -> &[u8]
     ensures { result.now ≡ drop place bytes.now }
@@ -24,13 +22,6 @@ pub(crate) fn until_zero(bytes: &[u8]) -> &[u8]
         }
     }
     bytes
-}
-
-/// The name that begins at a place of the string table.
-pub(crate) fn name_at(table: Symbols<'_>, st_name: u32) -> &[u8]
-    ensures { result.now ≡ take_while (λ b. not (b == 0)) (drop st_name table.entry.strings.now) }
-{
-    until_zero(rest_from(table.strings, st_name))
 }
 
 /// A byte that a symbol name may have.

@@ -4,7 +4,7 @@ ghost use Rattle.std.specs.Prelude.{◌≡◌, ◌+◌, ◌*◌, ◌/◌, ◌%�
 ghost use Rattle.std.specs.List.{find, list_any, take_while};
 ghost use Rattle.omos_model.specs.Names.{is_symbol_name};
 ghost use Rattle.omos_model.specs.FragmentParts.{is_alignment, max_size};
-ghost use Rattle.omos_model.specs.ElfFields.{is_section, sh_size};
+ghost use Rattle.omos_model.specs.ElfFields.{is_section, name_of, sh_size};
 ghost use Rattle.omos_model.specs.ElfFields.{st_info, symbol_at, symbols};
 ghost use Rattle.omos_model.specs.ElfFaults.{abs, common, is_kept, is_wrong_symbol, undef};
 ghost use Rattle.elf_words.specs.Sym.{sym_at};
@@ -12,7 +12,7 @@ ghost use Rattle.elf_object.specs.Stages.{HasHeaders};
 ghost use Rattle.elf_object.specs.TablesOf.{AreSymbols};
 
 use crate::kept::{is_alignment, is_kept, is_section};
-use crate::names::{begins_with_name, rest_from};
+use crate::names::{begins_with_name, rest_from, until_zero};
 use crate::reads::section;
 use crate::symtab::Symbols;
 use elf_words::{Record, Sym};
@@ -26,6 +26,15 @@ pub(crate) fn symbol(file: &[u8], table: Symbols<'_>, k: u32) -> Sym
     ensures info { result.st_info ≡ st_info file.now k }
 {
     Sym::read_at(file, table.at + 24 * k as usize)
+}
+
+/// The name of a symbol: the bytes before the first zero byte.
+pub(crate) fn name<'a>(file: &[u8], table: Symbols<'a>, k: u32) -> &'a [u8]
+    requires right { AreSymbols file.now table.count table.at table.strings.now }
+    requires there { k < table.count }
+    ensures { result.now ≡ name_of file.now k }
+{
+    until_zero(rest_from(table.strings, symbol(file, table, k).st_name))
 }
 
 const STB_LOCAL: u8 = 0;

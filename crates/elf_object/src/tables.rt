@@ -12,9 +12,8 @@ ghost use Rattle.elf_words.specs.Shdr.{shdr_at};
 ghost use Rattle.elf_words.specs.Sym.{sym_at};
 
 use crate::kept::{is_kept, is_nobits};
-use crate::names::name_at;
 use crate::reads::{bytes_of, count_of_sections, section};
-use crate::symbols::symbol;
+use crate::symbols::{name, symbol};
 use crate::symtab::Symbols;
 use elf_words::{Record, Rela, Shdr, Sym};
 use std::marker::Model;
@@ -110,8 +109,7 @@ impl Tables<'_> {
         ensures name { result.now ≡ name_of self.now k }
         ensures lawful { IsTrue (is_symbol_name result.now) }
     {
-        let symbol = symbol(self.file, self.symbols, k);
-        name_at(self.symbols, symbol.st_name)
+        name(self.file, self.symbols, k)
     }
 
     /// Whether a section has relocations of a kept section.

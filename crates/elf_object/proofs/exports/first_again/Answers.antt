@@ -25,14 +25,16 @@ loop-k-preserved c =
     let there : k < c.args.table.count = omega arith in
     let low : 1 ≤ k = c.loop-k.auto.k in
     elim c.match-export.branch [
-      in-Some+in_ok-insert+else-not-branch w ↦
-        let name = w.in-Some.name in
-        let new = not_not (contains (pointwise nat_eq) c.loop-k.names name) true (sym w.in_ok-insert.ensures.added ∙ w.if-not-branch.false) in
-        let miss = again_as file k name _ false w.in-Some.ensures (c.loop-k.invariant.0 name) new in
-        (λ n. with_export file k name n (contains (pointwise nat_eq) c.loop-k.names n) _ low w.in-Some.ensures (c.loop-k.invariant.0 n)
-        (ap (λ s. contains (pointwise nat_eq) s n) w.names-is ∙ w.in_ok-insert.ensures.updates.0 n),
-        c.loop-k.invariant.1 ∙ find_next (is_again file) k c.args.table.count there miss)
-    | in_default w ↦
-        (λ n. ap (λ s. contains (pointwise nat_eq) s n) w.names-is ∙ without_export file k n _ low w.in_default.ensures (c.loop-k.invariant.0 n),
-        c.loop-k.invariant.1 ∙ find_next (is_again file) k c.args.table.count there (never_again file k w.in_default.ensures))
+      | in-Some+in_ok-insert+else-not-branch w ↦
+          let name = w.in-Some.name in
+          let new = not_not (contains (pointwise nat_eq) c.loop-k.names name) true (sym w.in_ok-insert.ensures.added ∙ w.if-not-branch.false) in
+          let miss = again_as file k name _ false w.in-Some.ensures (c.loop-k.invariant.0 name) new in (
+            λ n. with_export file k name n (contains (pointwise nat_eq) c.loop-k.names n) _ low w.in-Some.ensures (c.loop-k.invariant.0 n)
+                (ap (λ s. contains (pointwise nat_eq) s n) w.names-is ∙ w.in_ok-insert.ensures.updates.0 n),
+            c.loop-k.invariant.1 ∙ find_next (is_again file) k c.args.table.count there miss,
+          )
+      | in_default w ↦ (
+        λ n. ap (λ s. contains (pointwise nat_eq) s n) w.names-is ∙ without_export file k n _ low w.in_default.ensures (c.loop-k.invariant.0 n),
+        c.loop-k.invariant.1 ∙ find_next (is_again file) k c.args.table.count there (never_again file k w.in_default.ensures),
+      )
     ]
