@@ -10,6 +10,7 @@ mod kept;
 mod names;
 mod read;
 mod reads;
+mod relas;
 mod section;
 mod symbol;
 mod symbols;
