@@ -1,6 +1,6 @@
 -- How far the reading of a file has come.
 use Rattle.std.specs.Prelude.{◌≡◌, ℕ, ◌+◌, ◌*◌, ◌<◌, ◌≤◌, ◌&&◌, nat_le, true, false, List, length}
-use Rattle.omos_model.specs.ElfFields.{e_shnum, e_shoff, symtabs}
+use Rattle.omos_model.specs.ElfFields.{e_shnum, e_shoff, sh_info, sh_offset, sh_size, symtabs}
 use Rattle.omos_model.specs.ElfFaults.{are_right_symtabs, has_headers, is_elf, is_relocatable}
 use Rattle.omos_model.specs.declared.refusal.ObjectFault.{ObjectFault}
 use Rattle.omos_model.specs.declared.refusal.ObjectFault.TheVariants as fault
@@ -32,3 +32,9 @@ IsHeaderFault file _ = ⊥
 -- the symbol table is wrong, or there are two
 abbrev pub IsSymbolsFault : List ℕ → ObjectFault → Type 0
 IsSymbolsFault file x = (x ≡ fault.Symbols) × (are_right_symtabs file (symtabs file) ≡ false)
+
+-- the entries of a relocation section and the size of its target can be read
+pub record IsReadable (file : List ℕ) (i : ℕ) : Type 0 where
+  pub there : i < e_shnum file
+  pub target : sh_info file i < e_shnum file
+  pub inside : sh_offset file i + sh_size file i ≤ length file

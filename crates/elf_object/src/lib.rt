@@ -3,6 +3,7 @@
 //! The file is lent, never copied, and no call takes memory.
 #![tactic(auto)]
 
+mod entries;
 mod exports;
 mod first;
 mod header;
