@@ -1,14 +1,13 @@
 -- What a file without a fault lets its tables be read by.
-use Rattle.std.proofs.Common.{◌≡◌, ℕ, ◌+◌, ◌*◌, ◌<◌, ◌≤◌, ◌==◌, Bool, true, false, not, ◌&&◌}
-use Rattle.std.proofs.Common.{◌||◌, List, None, length, refl, arith}
-use Rattle.std.specs.Prelude.{nat_lt, nat_le}
+use Rattle.std.proofs.Common.{◌≡◌, ℕ, ◌+◌, ◌<◌, ◌≤◌, ◌==◌, Bool, true, false, not, ◌&&◌}
+use Rattle.std.proofs.Common.{◌||◌, List, None, length, arith}
 use Rattle.std.proofs.lemmas.Bool.{and_parts, or_parts, not-false, ltb-true, leb-true}
 use Rattle.std.proofs.lemmas.Bool.{not_from_false, not_from_true}
 use Rattle.omos_model.specs.Names.{is_symbol_name}
 use Rattle.omos_model.specs.ElfFields.{e_shnum, is_section, name_of, sh_info, sh_offset, sh_size, sh_type}
 use Rattle.omos_model.specs.ElfFields.{symbol_count}
 use Rattle.omos_model.specs.ElfFaults.{has_name, is_kept, is_nobits, is_used_rela, lies_in_file}
-use Rattle.omos_model.specs.ElfFaults.{entry_count, is_right_rela, is_wrong_rela, is_wrong_symbol, object_fault, rela}
+use Rattle.omos_model.specs.ElfFaults.{is_right_rela, is_wrong_rela, is_wrong_symbol, object_fault, rela}
 use Rattle.elf_object.specs.Stages.{IsReadable}
 use Rattle.omos_model.proofs.RightFile.{IsSectionNumber, IsSymbolNumber, right_file}
 

@@ -10,6 +10,7 @@ ghost use Rattle.omos_model.specs.ElfFaults.{object_fault};
 ghost use Rattle.elf_words.specs.Rela.{rela_at};
 ghost use Rattle.elf_words.specs.Shdr.{shdr_at};
 ghost use Rattle.elf_words.specs.Sym.{sym_at};
+ghost use Rattle.elf_object.specs.TablesOf.{AreTables};
 
 use crate::kept::{is_kept, is_nobits};
 use crate::reads::{bytes_of, count_of_sections, section};
@@ -37,6 +38,16 @@ impl<'a> Model for Tables<'a> {
 
     ghost invariant = { λ t.
         AreTables t.file.now t.symbols.count t.symbols.at t.symbols.strings.now };
+}
+
+impl<'a> Tables<'a> {
+    /// The tables of a file that was found to have no fault.
+    pub(crate) fn of(file: &'a [u8], symbols: Symbols<'a>) -> Tables<'a>
+        requires { AreTables file.now symbols.count symbols.at symbols.strings.now }
+        ensures { result ≡ file.now }
+    {
+        Tables { file, symbols }
+    }
 }
 
 impl Tables<'_> {

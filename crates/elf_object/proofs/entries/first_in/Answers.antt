@@ -1,4 +1,4 @@
-use Rattle.std.proofs.Common.{◌≡◌, ◌<◌, ◌/◌, sym, ap, ◌∙◌, arith}
+use Rattle.std.proofs.Common.{◌≡◌, ◌<◌, sym, ap, ◌∙◌}
 use Rattle.omos_model.specs.ElfFields.{sh_size}
 use Rattle.omos_model.specs.ElfFaults.{entry_count, is_wrong_entry}
 use Rattle.elf_words.specs.declared.shdr.Shdr.{Shdr}

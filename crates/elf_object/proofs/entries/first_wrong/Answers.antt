@@ -1,6 +1,4 @@
-use Rattle.std.proofs.Common.{◌≡◌, ◌<◌, ◌+◌, ℕ, Some, None, sym, ap, ◌∙◌, arith}
-use Rattle.std.specs.List.{find}
-use Rattle.std.specs.Option.{option_map, option_or}
+use Rattle.std.proofs.Common.{◌<◌, Some, None, sym, ◌∙◌, arith}
 use Rattle.omos_model.specs.ElfFields.{e_shnum}
 use Rattle.elf_object.proofs.EntryRuns.{find_used, find_unused, readable_at}
 use Rattle.elf_object.proofs.entries.first_wrong.Goals as goal

@@ -1,9 +1,7 @@
-use Rattle.std.proofs.Common.{◌≡◌, ap, sym, ◌∙◌, ℕ, Some}
-use Rattle.std.specs.List.{find}
+use Rattle.std.proofs.Common.{ap, sym, ◌∙◌, ℕ, Some}
 use Rattle.std.specs.Option.{option_map}
 use Rattle.omos_model.specs.Names.{Name}
-use Rattle.omos_model.specs.ElfFields.{name_of, symbols}
-use Rattle.omos_model.specs.ElfFaults.{is_again}
+use Rattle.omos_model.specs.ElfFields.{name_of}
 use Rattle.omos_model.specs.declared.refusal.ObjectFault.TheVariants.{Twice}
 use Rattle.elf_object.proofs.Lawful.{again_is, no_fault}
 use Rattle.elf_object.proofs.exports.twice.Goals as goal

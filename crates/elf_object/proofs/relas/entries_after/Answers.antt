@@ -1,7 +1,7 @@
-use Rattle.std.proofs.Common.{◌≡◌, ◌+◌, ◌<◌, ◌≤◌, ◌/◌, ◌==◌, refl, ap, sym, ◌∙◌, true, false}
-use Rattle.std.proofs.lemmas.Bool.{eq-eqb, ne_eqb}
-use Rattle.omos_model.specs.ElfFields.{e_shnum, sh_info, sh_size, sh_type}
-use Rattle.omos_model.specs.ElfFaults.{entries_up_to, entry_count, is_kept, rela}
+use Rattle.std.proofs.Common.{◌≡◌, ◌<◌, refl, ap, sym, ◌∙◌, true, false}
+use Rattle.std.proofs.lemmas.Bool.{ne_eqb}
+use Rattle.omos_model.specs.ElfFields.{e_shnum, sh_size, sh_type}
+use Rattle.omos_model.specs.ElfFaults.{rela}
 use Rattle.elf_words.specs.declared.shdr.Shdr.{Shdr}
 use Rattle.elf_object.proofs.Sums.{other_kind, dropped, used, fine, is_rela, target, with_used, without_used}
 use Rattle.elf_object.proofs.relas.entries_after.Goals as goal
