@@ -24,15 +24,11 @@ pub(crate) fn until_zero(bytes: &[u8]) -> &[u8]
     bytes
 }
 
-/// A byte that a symbol name may have.
+/// A byte that a symbol name may have, letters first.
 fn is_name_byte(byte: u8) -> bool
     ensures { result ≡ is_name_byte byte }
 {
-    ((33 <= byte && byte <= 126) || 128 <= byte)
-        && byte != b'"'
-        && byte != b'('
-        && byte != b')'
-        && byte != b';'
+    matches!(byte, b'<'..=b'~' | 0x80..=0xff | b'*'..=b':' | b'#'..=b'\'' | b'!')
 }
 
 /// How many bytes that a name may have stand in front.
