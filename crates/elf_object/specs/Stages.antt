@@ -1,5 +1,6 @@
 -- How far the reading of a file has come.
-use Rattle.std.specs.Prelude.{◌≡◌, ℕ, ◌+◌, ◌*◌, ◌<◌, ◌≤◌, true, false, List, [], ◌∷◌, length, Option}
+use Rattle.std.specs.Prelude.{◌≡◌, ℕ, ◌+◌, ◌*◌, ◌<◌, ◌≤◌, true, false, List, [], ◌∷◌, length}
+use Rattle.std.specs.Prelude.{Option}
 use Rattle.std.specs.List.{find}
 use Rattle.std.specs.Option.{option_map}
 use Rattle.omos_model.specs.Numbers.{first_some}
@@ -61,7 +62,8 @@ wrong_symbol file = option_map fault.Symbol (find (is_wrong_symbol file) (symbol
 
 -- O9
 abbrev pub name_again : List ℕ → Option ObjectFault
-name_again file = option_map (λ k. fault.Twice (name_of file k)) (find (is_again file) (symbols file))
+name_again file =
+    option_map (λ k. fault.Twice (name_of file k)) (find (is_again file) (symbols file))
 
 -- O10
 abbrev pub wrong_relas : List ℕ → Option ObjectFault

@@ -1,7 +1,8 @@
 //! Relocations (System V gABI, chapter 4, "Relocation"; x86-64 psABI, "Relocation Types"), and
 //! the first that is wrong.
 
-ghost use Rattle.std.specs.Prelude.{◌≡◌, ◌+◌, ◌*◌, ◌/◌, ◌%◌, ◌^◌, ◌<◌, ◌==◌, ◌&&◌, false, not, nat_le, None};
+ghost use Rattle.std.specs.Prelude.{◌≡◌, ◌+◌, ◌*◌, ◌/◌, ◌%◌, ◌^◌, ◌<◌, ◌==◌, ◌&&◌, false, not};
+ghost use Rattle.std.specs.Prelude.{nat_le, None};
 ghost use Rattle.std.specs.List.{find};
 ghost use Rattle.std.specs.Option.{option_map, option_map_or};
 ghost use Rattle.omos_model.specs.FragmentParts.{width};
@@ -14,18 +15,39 @@ ghost use Rattle.elf_object.specs.TablesOf.{AreSymbols};
 
 use crate::kept::{is_kept, is_section};
 use crate::reads::{count_of_sections, section};
-use crate::relas::is_used;
-use crate::symbols::symbol;
+use crate::relas::{RELA_SIZE, is_used};
+use crate::symbols::{STB_LOCAL, symbol};
 use crate::symtab::Symbols;
 use elf_words::{Record, Rela};
+
+const R_X86_64_NONE: u32 = 0;
+
+const R_X86_64_64: u32 = 1;
+
+const R_X86_64_PC32: u32 = 2;
+
+const R_X86_64_PLT32: u32 = 4;
+
+const R_X86_64_GOTPCREL: u32 = 9;
+
+const R_X86_64_32: u32 = 10;
+
+const R_X86_64_32S: u32 = 11;
+
+const R_X86_64_PC64: u32 = 24;
+
+const R_X86_64_GOTPCRELX: u32 = 41;
+
+const R_X86_64_REX_GOTPCRELX: u32 = 42;
 
 /// How many bytes the field of a relocation type has, where there is such a type.
 fn width_of(r_type: u32) -> Option<u64>
     ensures { result ≡ option_map width (kind_of r_type) }
 {
     match r_type {
-        1 | 24 => Some(8),
-        2 | 4 | 9 | 10 | 11 | 41 | 42 => Some(4),
+        R_X86_64_64 | R_X86_64_PC64 => Some(8),
+        R_X86_64_PC32 | R_X86_64_PLT32 | R_X86_64_32 | R_X86_64_32S => Some(4),
+        R_X86_64_GOTPCREL | R_X86_64_GOTPCRELX | R_X86_64_REX_GOTPCRELX => Some(4),
         _ => None,
     }
 }
@@ -58,7 +80,7 @@ fn is_aim(file: &[u8], table: Symbols<'_>, k: u32) -> bool
     }
     let symbol = symbol(file, table, k);
     let index = symbol.st_shndx as usize;
-    !(symbol.st_info / 16 == 0 && is_section(file, index) && !is_kept(file, index))
+    !(symbol.st_info / 16 == STB_LOCAL && is_section(file, index) && !is_kept(file, index))
 }
 
 /// A relocation of another type than NONE whose type, field or symbol is wrong.
@@ -72,7 +94,8 @@ fn is_wrong(file: &[u8], table: Symbols<'_>, size: u64, entry: Rela) -> bool
 {
     let r_type = (entry.r_info % 0x1_0000_0000) as u32;
     let r_sym = (entry.r_info / 0x1_0000_0000) as u32;
-    r_type != 0 && !(is_in_target(r_type, entry.r_offset, size) && is_aim(file, table, r_sym))
+    r_type != R_X86_64_NONE
+        && !(is_in_target(r_type, entry.r_offset, size) && is_aim(file, table, r_sym))
 }
 
 /// The first relocation of a section that is wrong.
@@ -86,7 +109,7 @@ fn first_in(file: &[u8], table: Symbols<'_>, i: usize) -> Option<u32>
     let header = section(file, i);
     let size = section(file, header.sh_info as usize).sh_size;
     let at = header.sh_offset as usize;
-    for j in 0..(header.sh_size / 24) as u32 {
+    for j in 0..(header.sh_size / RELA_SIZE) as u32 {
         let entry = Rela::read_at(file, at + 24 * j as usize);
         if is_wrong(file, table, size, entry) {
             return Some(j);

@@ -1,6 +1,7 @@
 //! Names that a file defines for other objects, and the first that it defines twice.
 
-ghost use Rattle.std.specs.Prelude.{◌≡◌, ◌+◌, ◌*◌, ◌<◌, ◌≤◌, [], ◌∷◌, false, true, None, IfOk, MatchOption, nat_eq};
+ghost use Rattle.std.specs.Prelude.{◌≡◌, ◌+◌, ◌*◌, ◌<◌, ◌≤◌, [], ◌∷◌, false, true, None, IfOk};
+ghost use Rattle.std.specs.Prelude.{MatchOption, nat_eq};
 ghost use Rattle.std.specs.Cmp.Lexicographic.{pointwise};
 ghost use Rattle.std.specs.Cmp.Rules.{comparing, hashing};
 ghost use Rattle.std.specs.List.{find};
@@ -12,7 +13,7 @@ ghost use Rattle.omos_model.specs.declared.refusal.ObjectFault.TheVariants.{Twic
 ghost use Rattle.elf_object.specs.Stages.{HasHeaders};
 ghost use Rattle.elf_object.specs.TablesOf.{AreSymbols};
 
-use crate::symbols::{name, symbol};
+use crate::symbols::{SHN_UNDEF, STB_GLOBAL, STB_WEAK, name, symbol};
 use crate::symtab::Symbols;
 use omos_base::{Fault, NoMemory, SymName};
 use omos_model::ObjectFault;
@@ -68,7 +69,7 @@ fn export<'a>(file: &[u8], table: Symbols<'a>, k: u32) -> Option<ExportName<'a>>
 {
     let symbol = symbol(file, table, k);
     let binding = symbol.st_info / 16;
-    if (binding == 1 || binding == 2) && symbol.st_shndx != 0 {
+    if (binding == STB_GLOBAL || binding == STB_WEAK) && symbol.st_shndx != SHN_UNDEF {
         Some(ExportName {
             bytes: name(file, table, k),
         })

@@ -1,6 +1,7 @@
 //! Names in a string table (System V gABI, chapter 4, "String Table").
 
-ghost use Rattle.std.specs.Prelude.{◌≡◌, ◌<◌, ◌≤◌, ◌==◌, ◌&&◌, ◌||◌, not, drop, length, nat_le, nat_lt, slice_index};
+ghost use Rattle.std.specs.Prelude.{◌≡◌, ◌<◌, ◌≤◌, ◌==◌, ◌&&◌, ◌||◌, not, drop, length, nat_le};
+ghost use Rattle.std.specs.Prelude.{nat_lt, slice_index};
 ghost use Rattle.std.specs.List.{list_any, list_all, prefix_len, take_while};
 ghost use Rattle.omos_model.specs.Names.{is_name_byte, is_symbol_name};
 

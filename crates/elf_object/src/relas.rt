@@ -1,9 +1,11 @@
 //! Relocation sections (System V gABI, chapter 4, "Relocation"), and the first that is wrong.
 
-ghost use Rattle.std.specs.Prelude.{◌≡◌, ◌+◌, ◌-◌, ◌*◌, ◌/◌, ◌%◌, ◌<◌, ◌≤◌, false, true, MatchOption};
+ghost use Rattle.std.specs.Prelude.{◌≡◌, ◌+◌, ◌-◌, ◌*◌, ◌/◌, ◌%◌, ◌<◌, ◌≤◌, false, true};
+ghost use Rattle.std.specs.Prelude.{MatchOption};
 ghost use Rattle.std.specs.List.{find};
 ghost use Rattle.omos_model.specs.ElfFields.{e_shnum, sections, sh_info};
-ghost use Rattle.omos_model.specs.ElfFaults.{entries_up_to, entry_count, is_right_rela, is_used_rela};
+ghost use Rattle.omos_model.specs.ElfFaults.{entries_up_to, entry_count, is_right_rela};
+ghost use Rattle.omos_model.specs.ElfFaults.{is_used_rela};
 ghost use Rattle.omos_model.specs.ElfFaults.{is_wrong_rela};
 ghost use Rattle.elf_object.specs.Stages.{HasHeaders};
 
@@ -14,7 +16,7 @@ use crate::symtab::is_symtab;
 const SHT_RELA: u32 = 4;
 
 /// The size of a relocation.
-const RELA_SIZE: u64 = 24;
+pub(crate) const RELA_SIZE: u64 = 24;
 
 const MAX_ENTRIES: u64 = 65_535;
 
@@ -28,6 +30,8 @@ pub(crate) fn is_used(file: &[u8], i: usize) -> bool
     header.sh_type == SHT_RELA && is_kept(file, header.sh_info as usize)
 }
 
+/// The relocations of a kept section can be read, and with those of the sections before they are
+/// at most 65,535.
 fn is_right_rela(file: &[u8], i: usize, before: u64) -> bool
     requires headers { HasHeaders file.now }
     requires there { i < e_shnum file.now }

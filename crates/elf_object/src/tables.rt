@@ -1,11 +1,13 @@
 //! The tables of an object file without a fault.
 
-ghost use Rattle.std.specs.Prelude.{◌≡◌, ◌+◌, ◌*◌, ◌/◌, ◌<◌, ◌≤◌, ◌==◌, [], None, IsTrue, if◌then◌else◌};
+ghost use Rattle.std.specs.Prelude.{◌≡◌, ◌+◌, ◌*◌, ◌/◌, ◌<◌, ◌≤◌, ◌==◌, [], None, IsTrue};
+ghost use Rattle.std.specs.Prelude.{if◌then◌else◌};
 ghost use Rattle.omos_base.specs.Fault.{MatchFault};
 ghost use Rattle.omos_model.specs.Names.{is_symbol_name};
 ghost use Rattle.omos_model.specs.ElfFields.{e_shnum, entry_at, header_at, name_of, section_bytes};
 ghost use Rattle.omos_model.specs.ElfFields.{is_section, st_info, symbol_at, symbol_count};
-ghost use Rattle.omos_model.specs.ElfFaults.{entry_count, has_name, is_kept, is_nobits, is_used_rela};
+ghost use Rattle.omos_model.specs.ElfFaults.{entry_count, has_name, is_kept, is_nobits};
+ghost use Rattle.omos_model.specs.ElfFaults.{is_used_rela};
 ghost use Rattle.omos_model.specs.ElfFaults.{object_fault};
 ghost use Rattle.elf_words.specs.Rela.{rela_at};
 ghost use Rattle.elf_words.specs.Shdr.{shdr_at};
@@ -14,6 +16,7 @@ ghost use Rattle.elf_object.specs.TablesOf.{AreTables};
 
 use crate::kept::{is_kept, is_nobits};
 use crate::reads::{bytes_of, count_of_sections, section};
+use crate::relas::{RELA_SIZE, is_used};
 use crate::symbols::{name, symbol};
 use crate::symtab::Symbols;
 use elf_words::{Record, Rela, Shdr, Sym};
@@ -128,8 +131,7 @@ impl Tables<'_> {
         requires { i < e_shnum self.now }
         ensures { result ≡ is_used_rela self.now i }
     {
-        let header = section(self.file, i as usize);
-        header.sh_type == 4 && is_kept(self.file, header.sh_info as usize)
+        is_used(self.file, i as usize)
     }
 
     /// How many relocations there are in a section that has those of a kept section.
@@ -138,7 +140,7 @@ impl Tables<'_> {
         requires used { IsTrue (is_used_rela self.now i) }
         ensures { result ≡ entry_count self.now i }
     {
-        (section(self.file, i as usize).sh_size / 24) as u32
+        (section(self.file, i as usize).sh_size / RELA_SIZE) as u32
     }
 
     /// A relocation, by its section and its number in that.
