@@ -1,0 +1,2 @@
+pub mod ByGroup
+pub mod Pieces

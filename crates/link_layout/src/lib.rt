@@ -1,0 +1,8 @@
+//! The layout of an evaluated module: where its pieces and its slots stand, counted from the base.
+//!
+//! Nothing here chooses a base or computes a field.
+#![tactic(auto)]
+
+mod by_group;
+mod offsets;
+mod pieces;
