@@ -1,2 +1,4 @@
 pub mod ByGroup
 pub mod Pieces
+pub mod Slots
+pub mod Targets

@@ -6,3 +6,5 @@
 mod by_group;
 mod offsets;
 mod pieces;
+mod slot;
+mod slots;
