@@ -2,3 +2,4 @@ pub mod ByGroup
 pub mod Pieces
 pub mod Slots
 pub mod Targets
+pub mod References

@@ -6,5 +6,6 @@
 mod by_group;
 mod offsets;
 mod pieces;
+mod references;
 mod slot;
 mod slots;

@@ -1,7 +1,8 @@
 //! The slots of a module: one of 8 bytes for each distinct target of a GOT fixup.
 
-ghost use Rattle.std.specs.Prelude.{◌≡◌, [], fold, IfOk, OnOk};
+ghost use Rattle.std.specs.Prelude.{◌≡◌, ◌≤◌, [], fold, length, IfOk, OnOk};
 ghost use Rattle.std.specs.List.{zip};
+ghost use Rattle.omos_model.specs.FragmentParts.{max_entries};
 ghost use Rattle.link_layout.specs.Slots.{fixups_in, slots_with, slots_with_leaf};
 
 use crate::slot::{Slot, is_got, target_at};
@@ -12,7 +13,8 @@ use std::alloc::Global;
 
 /// The fixups of a leaf. A leaf is an object; a blueprint would have none.
 pub fn fixups_in(leaf: &Shared<Entry>) -> &[Fixup]
-    ensures { result.now ≡ fixups_in leaf.now }
+    ensures fixups { result.now ≡ fixups_in leaf.now }
+    ensures few { length result.now ≤ max_entries }
 {
     match leaf.get() {
         Entry::Object(fragment) => fragment.fixups(),

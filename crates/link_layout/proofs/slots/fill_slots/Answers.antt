@@ -12,7 +12,7 @@ loop-leaf-preserved c =
     fold-next slots_with_leaf (zip c.args.leaves.now c.args.landings.now) _ (length c.loop-leaf.yielded) _ c.loop-leaf.slots.keys _ _
     (zip-rest c.args.leaves.now c.args.landings.now _ c.in-Some.leaf.now c.in-Some.row.now turn)
     (length_push c.loop-leaf.yielded (c.in-Some.leaf, c.in-Some.row))
-    (c.in_ok-add_slots.ensures ∙ (λ i. fold slots_with c.loop-leaf.slots.keys (zip (c.fixups_in.ensures i) (c.as_slice.ensures i)))) c.loop-leaf.invariant
+    (c.in_ok-add_slots.ensures ∙ (λ i. fold slots_with c.loop-leaf.slots.keys (zip (c.fixups_in.ensures.fixups i) (c.as_slice.ensures i)))) c.loop-leaf.invariant
 
 pub returns : goal.returns
 returns c =
