@@ -1,2 +1,4 @@
-pub mod Rest
+pub mod Groups
 pub mod Refused
+pub mod Rest
+pub mod Standing

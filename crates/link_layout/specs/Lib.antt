@@ -3,3 +3,4 @@ pub mod Pieces
 pub mod Slots
 pub mod Targets
 pub mod References
+pub mod Layout

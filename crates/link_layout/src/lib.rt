@@ -6,6 +6,8 @@
 mod by_group;
 mod offsets;
 mod pieces;
+mod places;
 mod references;
+mod sizes;
 mod slot;
 mod slots;
