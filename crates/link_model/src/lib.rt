@@ -6,6 +6,7 @@
 
 mod evaluated;
 pub mod examples;
+pub mod laws;
 mod layout;
 mod linked;
 mod planned;
