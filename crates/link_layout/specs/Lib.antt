@@ -4,3 +4,4 @@ pub mod Slots
 pub mod Targets
 pub mod References
 pub mod Layout
+pub mod IsLaid

@@ -4,6 +4,7 @@
 #![tactic(auto)]
 
 mod by_group;
+mod layout_of;
 mod offsets;
 mod pieces;
 mod places;
@@ -11,3 +12,5 @@ mod references;
 mod sizes;
 mod slot;
 mod slots;
+
+pub use layout_of::lay;
