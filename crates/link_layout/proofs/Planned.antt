@@ -27,11 +27,6 @@ as_many m h =
 
 -- ---- L9
 
-pub is_too_large : (parts : Parts) (pages : ℕ) → pages ≡ all_pages parts → 2047 < pages → too_large parts ≡ Some (ImageTooLarge pages)
-is_too_large parts pages is more =
-    ap (λ n. cond (nat_lt 2047 n) (Some (ImageTooLarge n)) None) (sym is)
-    ∙ ap (λ b. cond b (Some (ImageTooLarge pages)) None) (lt-ltb 2047 pages more)
-
 pub is_small : (parts : Parts) (pages : ℕ) → pages ≡ all_pages parts → pages ≤ 2047 → too_large parts ≡ None
 is_small parts pages is few =
     ap (λ n. cond (nat_lt 2047 n) (Some (ImageTooLarge n)) None) (sym is)
@@ -57,16 +52,3 @@ laid m l small started bound pages places slots = (
   (λ i. plan_unless m (first_of (small i) (started i) (bound i))),
   (λ i. record { pages = pages i; places = places i; slots = slots i }),
 )
-
-pub laid-too_large : (m : Module) (x : Refusal) → too_large (parts_of_module m) ≡ Some x → plan_of_module m ≡ Err x
-laid-too_large m x large = ap (λ r. plan_unless m (first_of r (no_start (found m.names) m.start) (unresolved (parts_of_module m)))) large
-
-pub laid-no_start : (m : Module) (e : Fault Refusal) → too_large (parts_of_module m) ≡ None
-    → RefusesFor {T = Unit {0}} (no_start (found m.names) m.start) (Err e) → IsLaid (Err e) m
-laid-no_start m (Refused x) small start = λ i. plan_unless m (first_of (small i) (start i) (unresolved (parts_of_module m)))
-laid-no_start m NoMemory small start = tt
-
-pub laid-unresolved : (m : Module) (e : Fault Refusal) → too_large (parts_of_module m) ≡ None
-    → no_start (found m.names) m.start ≡ None → RefusesFor {T = Unit {0}} (unresolved (parts_of_module m)) (Err e) → IsLaid (Err e) m
-laid-unresolved m (Refused x) small started open_one = λ i. plan_unless m (first_of (small i) (started i) (open_one i))
-laid-unresolved m NoMemory small started open_one = tt

@@ -3,6 +3,9 @@
 ghost use Rattle.std.specs.Prelude.{◌≡◌, ◌+◌, ◌*◌, ◌^◌, ◌<◌, ◌≤◌};
 ghost use Rattle.link_model.specs.Layout.{aligned, page, pages_of};
 
+/// The bytes of a page.
+pub const PAGE: u64 = 4_096;
+
 /// The next offset that the alignment divides.
 pub fn aligned(align: u64, offset: u64) -> u64
     requires align { (1 ≤ align) × (align ≤ 4096) }
@@ -19,5 +22,5 @@ pub fn pages_of(size: u64) -> u64
     ensures value { result ≡ pages_of size }
     ensures near { page * result ≤ size + 4095 }
 {
-    (size + 4095) / 4096
+    (size + (PAGE - 1)) / PAGE
 }

@@ -9,7 +9,7 @@ ghost use Rattle.link_layout.specs.Layout.{AreBegins, AreSizes};
 ghost use Rattle.link_layout.specs.Pieces.{all_pieces};
 
 use crate::by_group::ByGroup;
-use crate::offsets::{aligned, pages_of};
+use crate::offsets::{PAGE, aligned, pages_of};
 use crate::pieces::ends_of;
 use omos_base::Shared;
 use omos_model::{Entry, Target};
@@ -53,9 +53,9 @@ pub fn begins_of(sizes: &ByGroup) -> ByGroup
     let zeros = vars + pages_of(sizes.vars);
     ByGroup {
         code: 0,
-        consts: 4096 * consts,
-        vars: 4096 * vars,
-        zeros: 4096 * zeros,
+        consts: PAGE * consts,
+        vars: PAGE * vars,
+        zeros: PAGE * zeros,
     }
 }
 
