@@ -7,14 +7,8 @@ use Rattle.omos_model.specs.declared.fragment.Piece.{Piece}
 use Rattle.link_model.specs.Program.{Parts}
 use Rattle.link_model.specs.Layout.{all_pages, end_with, page, pages_of}
 use Rattle.link_layout.specs.declared.by_group.ByGroup.{ByGroup}
-use Rattle.link_layout.specs.ByGroup.{IsWithin, bytes_of}
+use Rattle.link_layout.specs.ByGroup.{bytes_of}
 use Rattle.link_layout.specs.Layout.{AreBegins, AreEnds, AreSizes}
-
-pub within_each : (most : ℕ) (x : ByGroup) → IsWithin most x → (g : Group) → bytes_of x g ≤ most
-within_each most x h Code = h.code
-within_each most x h Consts = h.consts
-within_each most x h Vars = h.vars
-within_each most x h Zeros = h.zeros
 
 -- the groups end where they ended, and the further pieces behind
 pub AreEnds-append : (old new : ByGroup) (before xs : List Piece) → AreEnds old before

@@ -62,6 +62,7 @@ row-slots leaf k acc (y ∷ ys) =
   where
     rest : List Reference
     rest = filter got (map (reference_of leaf) (enumerate_from (k + 1) ys))
+
     go : (b : Bool)
         → fold with_slot (with_slot acc (target_at y.1)) (map landed_at rest) ≡ fold slots_with (with_slot acc (target_at y.1)) ys
         → fold with_slot acc (map landed_at rest) ≡ fold slots_with acc ys

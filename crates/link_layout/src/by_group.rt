@@ -17,6 +17,14 @@ impl ByGroup {
     ghost use Rattle.link_model.specs.Layout.{same_group};
     ghost use Rattle.link_layout.specs.ByGroup.{bytes_of};
 
+    /// Nothing in any group.
+    pub const EMPTY: ByGroup = ByGroup {
+        code: 0,
+        consts: 0,
+        vars: 0,
+        zeros: 0,
+    };
+
     /// The number of a group.
     pub fn get(&self, group: Group) -> u64
         ensures { result ≡ bytes_of self.now group }

@@ -23,10 +23,7 @@ use std::alloc::Global;
 const MAX_PAGES: u64 = 2_047;
 
 /// The slots of a module, and the sizes of its groups.
-fn measure(
-    alloc: Global,
-    evaluated: &Evaluated,
-) -> Result<(Row<Target>, ByGroup), NoMemory>
+fn measure(alloc: Global, evaluated: &Evaluated) -> Result<(Row<Target>, ByGroup), NoMemory>
     ensures slots { IfOk result (λ x. x.0 ≡ model.slots_of (parts_of_module evaluated.now)) }
     ensures sizes { IfOk result (λ x. AreSizes x.1 (parts_of_module evaluated.now)) }
     ensures near { IfOk result (λ x. IsWithin (2 ^ 49) x.1) }
@@ -58,11 +55,7 @@ fn check_landings(evaluated: &Evaluated) -> Result<(), Fault<Refusal>>
 }
 
 /// Where the pieces of each leaf stand.
-fn place(
-    alloc: Global,
-    evaluated: &Evaluated,
-    sizes: &ByGroup,
-) -> Result<Row<Row<u64>>, NoMemory>
+fn place(alloc: Global, evaluated: &Evaluated, sizes: &ByGroup) -> Result<Row<Row<u64>>, NoMemory>
     requires sizes { AreSizes sizes.now (parts_of_module evaluated.now) }
     requires near { IsWithin (2 ^ 49) sizes.now }
     ensures { IfOk result (λ places. places ≡ model.places_of (parts_of_module evaluated.now)) }

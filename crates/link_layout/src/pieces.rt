@@ -54,12 +54,7 @@ pub fn ends_of(leaves: &[Shared<Entry>]) -> ByGroup
     ensures ends { (g : Group) → bytes_of result g ≡ end_of g (all_pieces leaves.now) }
     ensures near { (g : Group) → bytes_of result g ≤ 2 ^ 48 }
 {
-    let mut ends = ByGroup {
-        code: 0,
-        consts: 0,
-        vars: 0,
-        zeros: 0,
-    };
+    let mut ends = ByGroup::EMPTY;
     for leaf in leaves {
         lay_pieces(&mut ends, pieces_in(leaf));
     }

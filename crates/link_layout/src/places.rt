@@ -53,12 +53,7 @@ pub fn places_of(
         → places ≡ places_over parts [] leaves.now) }
 {
     let mut places = Vec::with_capacity(alloc, leaves.len())?;
-    let mut ends = ByGroup {
-        code: 0,
-        consts: 0,
-        vars: 0,
-        zeros: 0,
-    };
+    let mut ends = ByGroup::EMPTY;
     for leaf in leaves {
         places.push(place_leaf(alloc, begins, &mut ends, pieces_in(leaf))?)?;
     }

@@ -23,11 +23,7 @@ pub fn fixups_in(leaf: &Shared<Entry>) -> &[Fixup]
 }
 
 /// Adds the slot of a reference, where it needs one that isn't there.
-fn add_slot(
-    slots: &mut IndexSet<Slot>,
-    fixup: &Fixup,
-    landing: &Landing,
-) -> Result<(), NoMemory>
+fn add_slot(slots: &mut IndexSet<Slot>, fixup: &Fixup, landing: &Landing) -> Result<(), NoMemory>
     ensures { OnOk result (slots.new.keys ≡ slots_with slots.old.keys (fixup.now, landing.now)) }
 {
     if is_got(fixup.kind) {

@@ -24,7 +24,7 @@ returns-in_err-check_reference c =
     let list = numbered c.args.fixups.now c.args.landings.now c.into_iter-number-iterator.result (cc) (cc) (cc) in
     let turn = YieldsList-turn list c.loop-number.yielded c.loop-number.number-iterator c.loop-number.yielded_by c.next.result c.next.new.self (c.in-Some.number, (c.in-Some.fixup, c.in-Some.landing)) c.in-Some.is c.next.ensures.steps in
     let found = first-found (refusal_in c.args.leaf) (λ x. refusal_of (reference_of c.args.leaf x)) (λ x xs. refl) all
-        (c.in-Some.number, (c.in-Some.fixup.now, c.in-Some.landing.now)) (length c.loop-number.yielded) _ (next-rest all _ _ turn) c.loop-number.invariant in
+    (c.in-Some.number, (c.in-Some.fixup.now, c.in-Some.landing.now)) (length c.loop-number.yielded) _ (next-rest all _ _ turn) c.loop-number.invariant in
     let p = err_from_is_err_and c.from_residual.result c.from_residual.ensures.1 in
     rw (p.1, p.2) (handed_on _ _ _ _ _ _ c.in_err-check_reference.ensures found)
 

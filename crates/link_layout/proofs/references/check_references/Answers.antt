@@ -24,7 +24,7 @@ returns-in_err-check_leaf c =
     let list = numbered c.args.leaves.now c.args.landings.now c.into_iter-number-iterator.result (cc) (cc) (cc) in
     let turn = YieldsList-turn list c.loop-number.yielded c.loop-number.number-iterator c.loop-number.yielded_by c.next.result c.next.new.self (c.in-Some.number, (c.in-Some.leaf, c.in-Some.row)) c.in-Some.is c.next.ensures.steps in
     let found = first-found (refusal_among) refusal_of_leaf (λ x xs. refl) all
-        (c.in-Some.number, (c.in-Some.leaf.now, c.in-Some.row.now)) (length c.loop-number.yielded) _ (next-rest all _ _ turn) c.loop-number.invariant in
+    (c.in-Some.number, (c.in-Some.leaf.now, c.in-Some.row.now)) (length c.loop-number.yielded) _ (next-rest all _ _ turn) c.loop-number.invariant in
     let p = err_from_is_err_and c.from_residual.result c.from_residual.ensures.1 in
     rw (p.1, p.2) (handed_on _ _ _ _ (refusal_among (drop (length c.loop-number.yielded + 1) all)) _ c.in_err-check_leaf.ensures
     (found ∙ (λ i. option_or (refusal_in c.in-Some.number (enumerate_from 0 (zip (sym c.fixups_in.ensures.fixups i) (sym c.as_slice.ensures i)))) (refusal_among (drop (length c.loop-number.yielded + 1) all)))))

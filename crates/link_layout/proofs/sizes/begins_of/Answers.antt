@@ -1,5 +1,5 @@
-use Rattle.std.proofs.Common.{◌+◌, ◌*◌, refl, arith}
-use Rattle.link_layout.proofs.Groups.{AreBegins-from_sizes, within_each}
+use Rattle.std.proofs.Common.{◌+◌, ◌*◌, refl}
+use Rattle.link_layout.proofs.Groups.{AreBegins-from_sizes}
 use Rattle.link_layout.proofs.sizes.begins_of.Goals as goal
 
 pub returns-clause-begins : goal.returns-clause-begins
@@ -7,6 +7,3 @@ returns-clause-begins c = λ parts h.
     AreBegins-from_sizes c.args.sizes.now _ parts h refl (λ i. 4096 * c.pages_of-consts.ensures.value i)
     (λ i. 4096 * (c.pages_of-consts.ensures.value i + c.pages_of.ensures.value i))
     (λ i. 4096 * (c.pages_of-consts.ensures.value i + c.pages_of.ensures.value i + c.pages_of-2.ensures.value i))
-
-pub returns-clause-near : goal.returns-clause-near
-returns-clause-near c = within_each _ _ (record { code = omega arith; consts = omega arith; vars = omega arith; zeros = omega arith })

@@ -7,8 +7,8 @@ end_with_slots-requires-clause-end c = c.ends_of-ends.ensures.near Vars
 
 pub returns-clause-near : goal.returns-clause-near
 returns-clause-near c = record {
-    code = omega (arith, c.ends_of-ends.ensures.near Code);
-    consts = omega (arith, c.ends_of-ends.ensures.near Consts);
-    vars = omega (arith, c.ends_of-ends.ensures.near Vars);
-    zeros = omega (arith, c.ends_of-ends.ensures.near Zeros);
+  code = omega (arith, c.ends_of-ends.ensures.near Code);
+  consts = omega (arith, c.ends_of-ends.ensures.near Consts);
+  vars = omega (arith, c.ends_of-ends.ensures.near Vars);
+  zeros = omega (arith, c.ends_of-ends.ensures.near Zeros);
 }
