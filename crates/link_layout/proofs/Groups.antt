@@ -1,5 +1,5 @@
 -- Numbers by group: bounds, ends, sizes and begins.
-use Rattle.std.proofs.Common.{◌≡◌, ℕ, ◌+◌, ◌*◌, ◌≤◌, List, ◌++◌, fold, sym, ap, ◌∙◌}
+use Rattle.std.proofs.Common.{◌≡◌, ◌+◌, ◌*◌, List, ◌++◌, fold, sym, ap, ◌∙◌}
 use Rattle.std.proofs.lemmas.List.Sums.{fold-append}
 use Rattle.omos_model.specs.declared.fragment.Group.{Group}
 use Rattle.omos_model.specs.declared.fragment.Group.TheVariants.{Code, Consts, Vars, Zeros}

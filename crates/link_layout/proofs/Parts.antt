@@ -1,6 +1,6 @@
 -- The parts of a module, from its leaves and landings.
 use Rattle.std.proofs.Common.{◌≡◌, ℕ, ◌+◌, ◌≤◌, Bool, true, false, cond, List, [], ◌∷◌, ◌++◌, length, map, fold, filter}
-use Rattle.std.proofs.Common.{Option, Some, None, min, refl, sym, ap, ◌∙◌, arith}
+use Rattle.std.proofs.Common.{Option, Some, None, refl, sym, ap, ◌∙◌, arith}
 use Rattle.std.specs.List.{enumerate_from, flat_map, sum_by, zip}
 use Rattle.std.specs.Option.{option_or}
 use Rattle.std.proofs.lemmas.List.{map-append, length_push}
@@ -13,14 +13,13 @@ use Rattle.omos_model.specs.declared.fragment.Fixup.{Fixup}
 use Rattle.omos_model.specs.declared.fragment.Piece.{Piece}
 use Rattle.omos_model.specs.declared.mark.Landing.{Landing}
 use Rattle.omos_model.specs.declared.mark.Target.{Target}
-use Rattle.omos_model.specs.declared.refusal.Refusal.{Refusal}
-use Rattle.link_model.specs.Program.{Part, Parts, Reference, reference_of, references, references_in}
+use Rattle.link_model.specs.Program.{Part, Parts, Reference, reference_of, references_in}
 use Rattle.link_model.specs.Module.{part_with}
 use Rattle.link_model.specs.Plan.{first_in, unresolved}
 use Rattle.link_model.specs.Layout.{is_got, is_slot, pieces_of, places_behind, places_from, places_of, slots_of, target_at, with_slot}
 use Rattle.link_layout.specs.Layout.{places_over}
 use Rattle.link_layout.specs.Pieces.{all_pieces, pieces_in}
-use Rattle.link_layout.specs.References.{refusal_among, refusal_in, refusal_of, refusal_of_leaf}
+use Rattle.link_layout.specs.References.{refusal_among, refusal_of, refusal_of_leaf}
 use Rattle.link_layout.specs.Slots.{fixups_in, slots_with, slots_with_leaf}
 
 abbrev Rows : Type 0

@@ -1,23 +1,18 @@
 -- The plan of a module, from the refusals that it could have.
-use Rattle.std.proofs.Common.{◌≡◌, ℕ, ◌<◌, ◌≤◌, Bool, true, false, cond, List, length, Option, Some, None, Result, Ok, Err, max}
+use Rattle.std.proofs.Common.{◌≡◌, ℕ, ◌≤◌, cond, length, Option, Some, None, Result, Ok, max}
 use Rattle.std.proofs.Common.{sym, ap, ◌∙◌, arith}
 use Rattle.std.specs.Prelude.{nat_lt}
 use Rattle.std.specs.Option.{option_or}
-use Rattle.std.proofs.lemmas.Bool.{lt-ltb, le-ltb}
+use Rattle.std.proofs.lemmas.Bool.{le-ltb}
 use Rattle.std.proofs.lemmas.List.{length-map}
-use Rattle.omos_base.specs.declared.fault.Fault.{Fault}
-use Rattle.omos_base.specs.declared.fault.Fault.TheVariants.{Refused, NoMemory}
 use Rattle.omos_model.specs.State.{states}
 use Rattle.omos_model.specs.declared.mark.MarkRow.{MarkRow}
-use Rattle.omos_model.specs.declared.mark.Target.{Target}
 use Rattle.omos_model.specs.declared.refusal.Refusal.{Refusal}
 use Rattle.omos_model.specs.declared.refusal.Refusal.TheVariants.{ImageTooLarge}
 use Rattle.link_model.specs.Layout.{all_pages, pages_in_all, places_of, slots_of}
 use Rattle.link_model.specs.Module.{IsModule, Module, Placing, found, parts_of_module, placing_of, plan_of_module, terms_of_module}
 use Rattle.link_model.specs.Plan.{Plan, no_start, planned, too_large, unless_refused, unresolved}
 use Rattle.link_model.specs.Program.{Parts, landings_of}
-use Rattle.link_layout.specs.IsLaid.{IsLaid}
-use Rattle.link_layout.specs.References.{RefusesFor}
 
 -- a module has a row of landings for each leaf
 pub as_many : (m : Module) → IsModule m → length m.landings ≡ length m.leaves

@@ -1,5 +1,5 @@
 -- A call that hands on a refusal.
-use Rattle.std.proofs.Common.{◌≡◌, Option, Some, Err, ap, ◌∙◌}
+use Rattle.std.proofs.Common.{◌≡◌, Option, Err, ap, ◌∙◌}
 use Rattle.std.specs.Option.{option_or}
 use Rattle.omos_base.specs.declared.fault.Fault.{Fault}
 use Rattle.omos_base.specs.declared.fault.Fault.TheVariants.{Refused, NoMemory}

@@ -1,6 +1,6 @@
 -- What a loop has still to come to.
-use Rattle.std.proofs.Common.{◌≡◌, ℕ, ◌+◌, ◌<◌, ◌≤◌, List, [], ◌∷◌, length, get_or, drop, fold, min}
-use Rattle.std.proofs.Common.{Option, Some, None, Iter, refl, sym, ap, ◌∙◌, arith}
+use Rattle.std.proofs.Common.{◌≡◌, ℕ, ◌+◌, ◌<◌, List, [], ◌∷◌, length, get_or, drop, fold, min}
+use Rattle.std.proofs.Common.{Option, None, Iter, sym, ap, ◌∙◌, arith}
 use Rattle.std.specs.declared.iter.Enumerate.{Enumerate}
 use Rattle.std.specs.declared.iter.Zip.{Zip}
 use Rattle.std.specs.Iterator.Adapters.{enumerate_source, enumerate_count, enumerate_steps, zip_first, zip_second}

@@ -1,10 +1,8 @@
 -- Where pieces stand, one more at a time.
 use Rattle.std.proofs.Common.{◌≡◌, ℕ, ◌+◌, ◌<◌, List, [], ◌∷◌, ◌++◌, length, get_or, take, sym, ap, ◌∙◌}
-use Rattle.std.specs.List.{flat_map}
 use Rattle.std.proofs.lemmas.List.{append-nil, append_assoc, take_more}
 use Rattle.std.proofs.lemmas.List.Concat.{flat_map-append}
 use Rattle.omos_model.specs.declared.entry.Entry.{Entry}
-use Rattle.omos_model.specs.declared.fragment.Group.{Group}
 use Rattle.omos_model.specs.declared.fragment.Piece.{Piece}
 use Rattle.link_model.specs.Program.{Parts}
 use Rattle.link_model.specs.Layout.{begin_of, place_of, places_behind}

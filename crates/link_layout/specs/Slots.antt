@@ -1,5 +1,5 @@
 -- Slots: one for each distinct target of a GOT fixup.
-use Rattle.std.specs.Prelude.{List, [], ◌++◌, fold, if◌then◌else◌}
+use Rattle.std.specs.Prelude.{List, ◌++◌, fold, if◌then◌else◌}
 use Rattle.std.specs.List.{zip}
 use Rattle.std.specs.Hash as fed
 use Rattle.omos_model.specs.declared.entry.Entry.{Entry}

@@ -1,6 +1,5 @@
-use Rattle.std.proofs.Common.{◌++◌, ◌∷◌, [], take, sym, ap, ◌∙◌, arith}
+use Rattle.std.proofs.Common.{◌++◌, take, arith}
 use Rattle.std.proofs.lemmas.Grind.{common_steps}
-use Rattle.link_model.specs.Layout.{places_behind}
 use Rattle.link_layout.proofs.Groups.{AreEnds-append}
 use Rattle.link_layout.proofs.Standing.{take_next, placed, places_behind-push}
 use Rattle.link_layout.proofs.places.place_leaf.Goals as goal
