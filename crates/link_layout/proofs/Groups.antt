@@ -22,11 +22,14 @@ pub AreBegins-from_sizes : (sizes begins : ByGroup) (parts : Parts) → AreSizes
     → begins.zeros ≡ page * (pages_of sizes.code + pages_of sizes.consts + pages_of sizes.vars)
     → AreBegins begins parts
 AreBegins-from_sizes sizes begins parts h code consts vars zeros Code = code
-AreBegins-from_sizes sizes begins parts h code consts vars zeros Consts = consts ∙ (λ i. page * pages_of (h Code i))
-AreBegins-from_sizes sizes begins parts h code consts vars zeros Vars = vars ∙ (λ i. page * (pages_of (h Code i) + pages_of (h Consts i)))
+AreBegins-from_sizes sizes begins parts h code consts vars zeros Consts =
+    consts ∙ (λ i. page * pages_of (h Code i))
+AreBegins-from_sizes sizes begins parts h code consts vars zeros Vars =
+    vars ∙ (λ i. page * (pages_of (h Code i) + pages_of (h Consts i)))
 AreBegins-from_sizes sizes begins parts h code consts vars zeros Zeros =
     zeros ∙ (λ i. page * (pages_of (h Code i) + pages_of (h Consts i) + pages_of (h Vars i)))
 
 pub all_pages-from_sizes : (sizes : ByGroup) (parts : Parts) → AreSizes sizes parts
     → pages_of sizes.code + pages_of sizes.consts + pages_of sizes.vars + pages_of sizes.zeros ≡ all_pages parts
-all_pages-from_sizes sizes parts h = λ i. pages_of (h Code i) + pages_of (h Consts i) + pages_of (h Vars i) + pages_of (h Zeros i)
+all_pages-from_sizes sizes parts h =
+    λ i. pages_of (h Code i) + pages_of (h Consts i) + pages_of (h Vars i) + pages_of (h Zeros i)

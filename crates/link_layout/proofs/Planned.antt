@@ -10,7 +10,8 @@ use Rattle.omos_model.specs.declared.mark.MarkRow.{MarkRow}
 use Rattle.omos_model.specs.declared.refusal.Refusal.{Refusal}
 use Rattle.omos_model.specs.declared.refusal.Refusal.TheVariants.{ImageTooLarge}
 use Rattle.link_model.specs.Layout.{all_pages, pages_in_all, places_of, slots_of}
-use Rattle.link_model.specs.Module.{IsModule, Module, Placing, found, parts_of_module, placing_of, plan_of_module, terms_of_module}
+use Rattle.link_model.specs.Module.{IsModule, Module, Placing, found, parts_of_module}
+use Rattle.link_model.specs.Module.{placing_of, plan_of_module, terms_of_module}
 use Rattle.link_model.specs.Plan.{Plan, no_start, planned, too_large, unless_refused, unresolved}
 use Rattle.link_model.specs.Program.{Parts, landings_of}
 
@@ -22,7 +23,8 @@ as_many m h =
 
 -- ---- L9
 
-pub is_small : (parts : Parts) (pages : ℕ) → pages ≡ all_pages parts → pages ≤ 2047 → too_large parts ≡ None
+pub is_small : (parts : Parts) (pages : ℕ)
+    → pages ≡ all_pages parts → pages ≤ 2047 → too_large parts ≡ None
 is_small parts pages is few =
     ap (λ n. cond (nat_lt 2047 n) (Some (ImageTooLarge n)) None) (sym is)
     ∙ ap (λ b. cond b (Some (ImageTooLarge pages)) None) (le-ltb 2047 pages few)
@@ -36,11 +38,14 @@ abbrev first_of : Option Refusal → Option Refusal → Option Refusal → Optio
 first_of large start open_one = option_or large (option_or start open_one)
 
 abbrev plan_unless : Module → Option Refusal → Result Plan Refusal
-plan_unless m refusal = unless_refused refusal (planned (parts_of_module m) (found m.names) (terms_of_module m))
+plan_unless m refusal =
+    unless_refused refusal (planned (parts_of_module m) (found m.names) (terms_of_module m))
 
 pub laid : (m : Module) (l : Placing)
-    → too_large (parts_of_module m) ≡ None → no_start (found m.names) m.start ≡ None → unresolved (parts_of_module m) ≡ None
-    → l.pages ≡ pages_in_all (parts_of_module m) → l.places ≡ places_of (parts_of_module m) → l.slots ≡ slots_of (parts_of_module m)
+    → too_large (parts_of_module m) ≡ None → no_start (found m.names) m.start ≡ None
+    → unresolved (parts_of_module m) ≡ None
+    → l.pages ≡ pages_in_all (parts_of_module m) → l.places ≡ places_of (parts_of_module m)
+    → l.slots ≡ slots_of (parts_of_module m)
     → (plan : Plan) × (plan_of_module m ≡ Ok plan) × (l ≡ placing_of plan)
 laid m l small started bound pages places slots = (
   planned (parts_of_module m) (found m.names) (terms_of_module m),

@@ -22,7 +22,8 @@ pub fn pieces_in(leaf: &Shared<Entry>) -> &[Piece]
     }
 }
 
-/// Lays a piece behind those of its group, and says where it begins, counted from the group's begin.
+/// Lays a piece behind those of its group, and says where it begins, counted from where the group
+/// does.
 pub fn lay_piece(ends: &mut ByGroup, piece: &Piece) -> u64
     requires bounded { IsBounded piece.now }
     requires room { bytes_of ends.old piece.now.group ≤ 2 ^ 55 }

@@ -27,7 +27,8 @@ fn check_reference(
     fixup: &Fixup,
     landing: &Landing,
 ) -> Result<(), Fault<Refusal>>
-    ensures { RefusesFor (refusal_of (reference_of leaf (number, (fixup.now, landing.now)))) result }
+    ensures { let r = reference_of leaf (number, (fixup.now, landing.now)) in
+        RefusesFor (refusal_of r) result }
 {
     match landing {
         Landing::On(_) => Ok(()),

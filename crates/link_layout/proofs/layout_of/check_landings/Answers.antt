@@ -6,5 +6,6 @@ check_references-requires c = few_leaves _ c.leaves.ensures.evaluated _ c.leaves
 
 pub returns : goal.returns
 returns c =
-    rw (unresolved_is _ c.leaves.ensures.evaluated _ c.leaves.ensures.leaves _ c.landings.ensures.landings)
+    rw (unresolved_is _ c.leaves.ensures.evaluated _ c.leaves.ensures.leaves _
+    c.landings.ensures.landings)
     c.check_references.ensures

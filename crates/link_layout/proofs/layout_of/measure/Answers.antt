@@ -8,15 +8,15 @@ sizes_of-sizes-requires-clause-few_leaves c =
 
 pub sizes_of-sizes-requires-clause-few_slots : goal.sizes_of-sizes-requires-clause-few_slots
 sizes_of-sizes-requires-clause-few_slots c =
-    few_slots _ c.leaves-leaves.ensures.evaluated _ c.leaves-leaves.ensures.leaves _ c.landings.ensures.landings _
-    (c.as_slice.ensures ∙ c.in_ok-slots.ensures)
+    few_slots _ c.leaves-leaves.ensures.evaluated _ c.leaves-leaves.ensures.leaves _
+    c.landings.ensures.landings _ (c.as_slice.ensures ∙ c.in_ok-slots.ensures)
 
 pub returns-clause-slots : goal.returns-clause-slots
 returns-clause-slots c =
-    slots_are _ c.leaves-leaves.ensures.evaluated _ c.leaves-leaves.ensures.leaves _ c.landings.ensures.landings _
-    c.in_ok-slots.ensures
+    slots_are _ c.leaves-leaves.ensures.evaluated _ c.leaves-leaves.ensures.leaves _
+    c.landings.ensures.landings _ c.in_ok-slots.ensures
 
 pub returns-clause-sizes : goal.returns-clause-sizes
 returns-clause-sizes c =
-    sizes_are _ c.leaves-leaves.ensures.evaluated _ c.leaves-leaves.ensures.leaves _ c.landings.ensures.landings _
-    (c.as_slice.ensures ∙ c.in_ok-slots.ensures) c.sizes_of-sizes.result c.sizes_of-sizes.ensures.sizes
+    sizes_are _ c.leaves-leaves.ensures.evaluated _ c.leaves-leaves.ensures.leaves _
+    c.landings.ensures.landings _ (c.as_slice.ensures ∙ c.in_ok-slots.ensures) c.sizes_of-sizes.result c.sizes_of-sizes.ensures.sizes

@@ -10,5 +10,6 @@ pub returns : goal.returns
 returns c =
     let m = c.args.evaluated.now in
     IfOk-weaker c.places_of.result _ _
-    (λ places h. places_are m c.leaves.ensures.evaluated _ c.leaves.ensures.leaves places (h (parts_of_module m) (c.begins_of.ensures.begins (parts_of_module m) c.requires.sizes)))
+    (λ places h. places_are m c.leaves.ensures.evaluated _ c.leaves.ensures.leaves places
+    (h (parts_of_module m) (c.begins_of.ensures.begins (parts_of_module m) c.requires.sizes)))
     c.places_of.ensures

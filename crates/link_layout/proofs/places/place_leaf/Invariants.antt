@@ -10,8 +10,10 @@ use Rattle.link_layout.proofs.places.place_leaf.Given as goal
 abbrev pub invariant-loop-piece : goal.invariant-loop-piece
 invariant-loop-piece l =
     record {
-      places : (parts : Parts) (before : List Piece) → AreBegins l.begins parts → AreEnds l.fn.ends before
+      places : (parts : Parts) (before : List Piece)
+          → AreBegins l.begins parts → AreEnds l.fn.ends before
           → l.places.items ≡ places_behind parts before (take l.piece-index l.pieces);
-      ends : (g : Group) → bytes_of l.ends g ≡ fold (end_with g) (bytes_of l.fn.ends g) (take l.piece-index l.pieces);
+      ends : (g : Group) → bytes_of l.ends g
+          ≡ fold (end_with g) (bytes_of l.fn.ends g) (take l.piece-index l.pieces);
       near : (g : Group) → bytes_of l.ends g ≤ bytes_of l.fn.ends g + l.piece-index * 8392704;
     }

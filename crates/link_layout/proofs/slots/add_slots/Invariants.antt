@@ -5,4 +5,5 @@ use Rattle.link_layout.proofs.slots.add_slots.Given as goal
 
 abbrev pub invariant-loop-fixup : goal.invariant-loop-fixup
 invariant-loop-fixup l =
-    fold slots_with l.slots.keys (drop (length l.yielded) (zip l.fixups l.landings)) ≡ fold slots_with l.fn.slots.keys (zip l.fixups l.landings)
+    fold slots_with l.slots.keys (drop (length l.yielded) (zip l.fixups l.landings))
+    ≡ fold slots_with l.fn.slots.keys (zip l.fixups l.landings)
