@@ -1,0 +1,4 @@
+pub mod Ends
+pub mod Loads
+pub mod HeaderPages
+pub mod Painting
