@@ -2,3 +2,4 @@ pub mod Ends
 pub mod Loads
 pub mod HeaderPages
 pub mod Painting
+pub mod Sectioned

@@ -6,3 +6,4 @@ pub mod Groups
 pub mod Plans
 pub mod Headers
 pub mod Painted
+pub mod Sections

@@ -10,3 +10,4 @@ mod offsets;
 mod pieces;
 mod slot;
 mod headers;
+mod sections;
