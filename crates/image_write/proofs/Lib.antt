@@ -3,3 +3,4 @@ pub mod Loads
 pub mod HeaderPages
 pub mod Painting
 pub mod Sectioned
+pub mod Slotted

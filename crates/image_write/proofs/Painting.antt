@@ -33,14 +33,14 @@ painted-then {new} {mid} {old} {p} {q} later before =
         later.each x within ∙ ap (unwrap_or (q x)) (before.each x lt) ∙ or_else (p x) (q x) (slice_index old x);
     }
 
-run_at-inside : (at : ℕ) (bytes : List ℕ) (x : ℕ) → at ≤ x → x < at + length bytes
+pub run_at-inside : (at : ℕ) (bytes : List ℕ) (x : ℕ) → at ≤ x → x < at + length bytes
     → run_at at bytes x ≡ Some (slice_index bytes (x - at))
 run_at-inside at bytes x h k = grind (arith, nat_tests)
 
-run_at-below : (at : ℕ) (bytes : List ℕ) (x : ℕ) → x < at → run_at at bytes x ≡ None
+pub run_at-below : (at : ℕ) (bytes : List ℕ) (x : ℕ) → x < at → run_at at bytes x ≡ None
 run_at-below at bytes x h = grind (arith, nat_tests)
 
-run_at-behind : (at : ℕ) (bytes : List ℕ) (x : ℕ) → at + length bytes ≤ x → run_at at bytes x ≡ None
+pub run_at-behind : (at : ℕ) (bytes : List ℕ) (x : ℕ) → at + length bytes ≤ x → run_at at bytes x ≡ None
 run_at-behind at bytes x h = grind (arith, nat_tests)
 
 -- the bytes once others are written from a place on

@@ -7,3 +7,4 @@ pub mod Plans
 pub mod Headers
 pub mod Painted
 pub mod Sections
+pub mod Addresses

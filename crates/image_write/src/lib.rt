@@ -4,6 +4,7 @@
 //! Nothing here lays out or chooses a base.
 #![tactic(auto)]
 
+mod addresses;
 mod by_group;
 mod groups;
 mod offsets;
@@ -11,3 +12,4 @@ mod pieces;
 mod slot;
 mod headers;
 mod sections;
+mod slots;
