@@ -4,3 +4,4 @@ pub mod HeaderPages
 pub mod Painting
 pub mod Sectioned
 pub mod Slotted
+pub mod Patched

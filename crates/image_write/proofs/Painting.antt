@@ -2,7 +2,7 @@
 use Rattle.std.proofs.Common.{◌≡◌, ℕ, ◌+◌, ◌-◌, ◌<◌, ◌≤◌, List, [], ◌∷◌, ◌++◌, length, get_or, take, drop, Option, Some, None, Bool, true, false, unwrap_or, refl, sym, ap, ◌∙◌, arith, rules, inl, inr}
 use Rattle.std.proofs.lemmas.Bool.{cases_lt}
 use Rattle.std.specs.Prelude.{if◌then◌else◌, slice_index, ◌&&◌, nat_le, nat_lt}
-use Rattle.std.specs.Option.{option_or}
+use Rattle.std.specs.Option.{option_map, option_or}
 use Rattle.std.proofs.lemmas.List.{places, length-append, length-take, length-drop}
 use Rattle.std.proofs.lemmas.Bool.Decides.{nat_tests}
 use Rattle.link_model.specs.ImageBytes.{covers}
@@ -32,6 +32,12 @@ painted-then {new} {mid} {old} {p} {q} later before =
         let within : x < length mid = omega (arith, before.size) in
         later.each x within ∙ ap (unwrap_or (q x)) (before.each x lt) ∙ or_else (p x) (q x) (slice_index old x);
     }
+
+-- a function of one of two
+pub either : {X Y : Type 0} (f : X → Y) (a b : Option X)
+    → option_or (option_map f a) (option_map f b) ≡ option_map f (option_or a b)
+either f (Some x) b = refl
+either f None b = refl
 
 pub run_at-inside : (at : ℕ) (bytes : List ℕ) (x : ℕ) → at ≤ x → x < at + length bytes
     → run_at at bytes x ≡ Some (slice_index bytes (x - at))

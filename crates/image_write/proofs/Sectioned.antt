@@ -13,7 +13,7 @@ use Rattle.link_model.specs.ImageBytes.{covers}
 use Rattle.image_write.specs.Painted.{Painted, run_at}
 use Rattle.image_write.specs.Pieces.{all_pieces, pieces_in}
 use Rattle.image_write.specs.Sections.{AreInside, IsInside, IsLeafInside, Placed, byte_at, first_byte, placed_in}
-use Rattle.image_write.proofs.Painting.{painted-as, painted-nothing, painted-then}
+use Rattle.image_write.proofs.Painting.{either, painted-as, painted-nothing, painted-then}
 
 -- ---- two lists side by side
 
@@ -41,11 +41,6 @@ pick : {X Y : Type 0} (b : Bool) (f : X → Y) (y : X) (r : Option X)
     → option_or (if b then Some (f y) else None) (option_map f r) ≡ option_map f (if b then Some y else r)
 pick true f y r = refl
 pick false f y r = refl
-
-either : {X Y : Type 0} (f : X → Y) (a b : Option X)
-    → option_or (option_map f a) (option_map f b) ≡ option_map f (option_or a b)
-either f (Some x) b = refl
-either f None b = refl
 
 first_byte-next : (y : Placed) (ys : List Placed) (x : ℕ)
     → option_or (run_at y.0 y.1.bytes x) (first_byte ys x) ≡ first_byte (y ∷ ys) x

@@ -8,3 +8,4 @@ pub mod Headers
 pub mod Painted
 pub mod Sections
 pub mod Addresses
+pub mod Fields

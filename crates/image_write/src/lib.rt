@@ -13,3 +13,4 @@ mod slot;
 mod headers;
 mod sections;
 mod slots;
+mod fields;
