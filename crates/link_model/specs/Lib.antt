@@ -5,4 +5,5 @@ pub mod Plan
 pub mod ImageBytes
 pub mod Answer
 pub mod Module
+pub mod Laws
 pub mod Examples

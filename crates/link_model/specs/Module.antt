@@ -1,10 +1,10 @@
 -- Evaluated modules, their layout and their images, as values of the types that keep them.
-use Rattle.std.specs.Prelude.{◌≡◌, ℕ, List, [], map, Option, Some, None, Result, Ok, slice_get}
+use Rattle.std.specs.Prelude.{◌≡◌, ℕ, List, [], ◌∷◌, map, Option, Some, None, Result, Ok, slice_get}
 use Rattle.std.specs.Prelude.{unwrap_or}
 use Rattle.std.specs.List.{find, zip}
 use Rattle.std.specs.Option.{option_map}
 use Rattle.omos_model.specs.Names.{Name, same_name}
-use Rattle.omos_model.specs.Namespace.{look_up}
+use Rattle.omos_model.specs.Namespace.{Space, look_up}
 use Rattle.omos_model.specs.Term.{Term}
 use Rattle.omos_model.specs.Definition.{definition}
 use Rattle.omos_model.specs.State.{states}
@@ -18,6 +18,8 @@ use Rattle.omos_model.specs.declared.mark.Landing.{Landing}
 use Rattle.omos_model.specs.declared.mark.Target.{Target}
 use Rattle.omos_model.specs.declared.refusal.Refusal.{Refusal}
 use Rattle.omos_model.specs.declared.visit.Visit.{Visit}
+use Rattle.module_table.specs.Stands.{StandsFor}
+use Rattle.module_table.specs.TableParts.{TableParts}
 use Rattle.link_model.specs.declared.evaluated.Found.{Found}
 use Rattle.link_model.specs.Program.{Part, Parts, Terms, landings_of, object_of, terms_of}
 use Rattle.link_model.specs.Plan.{Plan, plan_of, plan_of_parts}
@@ -69,6 +71,24 @@ parts_of_module m = map part_with (zip m.leaves m.landings)
 -- the plan of a module, or the first of L9 to L11
 abbrev pub plan_of_module : Module → Result Plan Refusal
 plan_of_module m = plan_of_parts (parts_of_module m) (found m.names) (terms_of_module m)
+
+-- nothing is refused in the path's term on the namespace, which lists what the term reads
+pub record IsTermOf (path : Name) (ns : Space) (given : Terms) (t : Term) (v : Visit) : Type 0 where
+  pub expanded : expansion ns path ≡ Ok (t, v)
+  pub unrefused : first_refusal t ≡ None
+  pub listed : footprint ns path ≡ Some ns
+  pub terms : option_map (λ s. terms_of s.entry) (look_up ns path) ≡ Some given
+
+abbrev pub terms_with : Start → ℕ → ℕ → Terms
+terms_with start lo hi = record { start = start; lo = lo; hi = hi }
+
+-- the table stands for the path's term
+abbrev pub IsTableOf : TableParts → Name → Space → Terms → Type 0
+IsTableOf table path ns terms = (t : Term) × (v : Visit) × StandsFor table t × IsTermOf path ns terms t v
+
+-- the namespace that holds an entry alone
+abbrev pub alone : Name → Entry → Space
+alone path entry = record { path = path; stamp = 1; entry = entry } ∷ []
 
 -- the module is the path's, on the namespace that its footprint lists, by this term
 pub record IsEvaluation (m : Module) (t : Term) (v : Visit) : Type 0 where

@@ -6,8 +6,11 @@
 
 mod evaluated;
 pub mod examples;
+mod landed;
+pub mod laws;
 mod layout;
 mod linked;
+mod made;
 mod planned;
 
 pub use evaluated::{Evaluated, Found};

@@ -40,7 +40,7 @@ two_parts v w x t u h k = (
 
 numbered : Lasts Numbered
 numbered = record {
-  leaf = λ v f s. (1, refl, refl);
+  leaf = λ v f s room. (1, refl, refl);
   merge = λ s v w x t u h k. two_parts v w x t u h k;
   override = λ s v w x t u h k. two_parts v w x t u h k;
   apply = λ s op v w t h. h;

@@ -111,7 +111,7 @@ Reads ns path v t w = WereRead ns path v.read → WereRead ns path w.read
 
 reads_last : (ns : Space) (path : Name) → Lasts (Reads ns path)
 reads_last ns path = record {
-  leaf = λ v f s h. h;
+  leaf = λ v f s room h. h;
   merge = λ s v w x t u h k r. k (h r);
   override = λ s v w x t u h k r. k (h r);
   apply = λ s op v w t h. h;

@@ -20,6 +20,12 @@ use Rattle.omos_model.specs.declared.visit.Visit.{Visit}
 abbrev pub Fact : Type 1
 Fact = Visit → Term → Visit → Type 0
 
+-- a leaf with this object is still allowed
+abbrev pub has_room : Visit → FragmentParts → Bool
+has_room v f =
+    nat_lt v.leaves 256 && nat_le (v.exports + length f.exports) 524288
+    && nat_le (v.fixups + length f.fixups) 524288
+
 abbrev pub after_leaf : FragmentParts → Visit → Visit
 after_leaf f v =
     record v {
@@ -30,7 +36,8 @@ after_leaf f v =
 
 -- the fact holds of a leaf, goes on from operands to operators, and doesn't see the count of nodes
 pub record Lasts (R : Visit → Term → Visit → Type 0) : Type 0 where
-  pub leaf : (v : Visit) (f : FragmentParts) (s : Site) → R v (Leaf s v.leaves f) (after_leaf f v)
+  pub leaf : (v : Visit) (f : FragmentParts) (s : Site) → has_room v f ≡ true
+      → R v (Leaf s v.leaves f) (after_leaf f v)
   pub merge : (s : Site) (v w x : Visit) (t u : Term) → R v t w → R w u x → R v (Merge s t u) x
   pub override : (s : Site) (v w x : Visit) (t u : Term) → R v t w → R w u x
       → R v (Override s t u) x
@@ -87,11 +94,12 @@ module _ (R : Visit → Term → Visit → Type 0) (lasts : Lasts R) where
       go false = tt
 
   leaf_holds : (f : FragmentParts) (s : Site) (v : Visit) → Holds R v (leaf f s v)
-  leaf_holds f s v = go (nat_lt v.leaves 256 && nat_le (v.exports + length f.exports) 524288 && nat_le (v.fixups + length f.fixups) 524288)
+  leaf_holds f s v = go (has_room v f) refl
     where
-      go : (b : Bool) → Holds R v (cond b (Ok (Leaf s v.leaves f, after_leaf f v)) (Err (TooLarge s)))
-      go true = lasts.leaf v f s
-      go false = tt
+      go : (b : Bool) → has_room v f ≡ b
+          → Holds R v (cond b (Ok (Leaf s v.leaves f, after_leaf f v)) (Err (TooLarge s)))
+      go true e = lasts.leaf v f s e
+      go false e = tt
 
   visit_holds : (at : Name) (path : Name → Visitor Term)
       → ((p : Name) (v : Visit) → Holds R v (path p v)) → (x : Tree) (v : Visit)

@@ -1,8 +1,8 @@
 -- Laws of the definitions.
 use Rattle.std.specs.Prelude.{◌≡◌, ◌↔◌, ◌+◌, ◌≤◌, ◌++◌, Some, slice_get, ℕ, ◌==◌, Bool, false, not}
-use Rattle.std.specs.Prelude.{List, [], ◌∷◌, filter, map}
+use Rattle.std.specs.Prelude.{List, [], ◌∷◌, filter, length, map}
 use Rattle.std.specs.Prelude.{reverse, take, Ok, IfOk, IsTrue}
-use Rattle.std.specs.List.{list_all, list_any, find, IsDistinct}
+use Rattle.std.specs.List.{list_all, list_any, find, sum_by, IsDistinct}
 use Rattle.std.specs.List.Sorted.{IsStrictlySortedBy}
 use Rattle.omos_base.specs.SymNames.{IsSymName}
 use Rattle.omos_model.specs.Names.{Name, same_name, name_cmp, is_symbol_name}
@@ -17,7 +17,7 @@ use Rattle.omos_model.specs.State.{state, states, in_rows}
 use Rattle.omos_model.specs.FirstRefusal.{both_define, conflict}
 use Rattle.omos_model.specs.Namespace.{Space, look_up, stamped_from, with_entry, version_of}
 use Rattle.omos_model.specs.Namespace.{namespace_at}
-use Rattle.omos_model.specs.Expansion.{expansion}
+use Rattle.omos_model.specs.Expansion.{expansion, max_leaves, max_sum}
 use Rattle.omos_model.specs.Footprint.{footprint}
 use Rattle.omos_model.specs.declared.entry.Entry.{Entry}
 use Rattle.omos_model.specs.declared.entry.Stamped.{Stamped}
@@ -98,6 +98,12 @@ abbrev pub LeavesLaw : Type 0
 LeavesLaw =
     (ns : Space) (path : Name) (t : Term) (v : Visit) → expansion ns path ≡ Ok (t, v)
     → leaf_numbers t ≡ numbers_from 0 v.leaves
+
+-- an expansion has at most 256 leaves, and one reference for each fixup, at most 524,288 in all
+abbrev pub CountsLaw : Type 0
+CountsLaw =
+    (ns : Space) (path : Name) (t : Term) (v : Visit) → expansion ns path ≡ Ok (t, v)
+    → (length (states t) ≤ max_leaves) × (sum_by (λ r. length r.marks) (states t) ≤ max_sum)
 
 -- what stands under a path is what its last publish put there
 abbrev pub LastPutLaw : Type 0

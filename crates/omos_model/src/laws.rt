@@ -1,7 +1,7 @@
 //! Laws of the definitions, each the contract of a function that does nothing.
 
 ghost use Rattle.omos_model.specs.Laws.{HideLaw, MergeLaw, OverrideLaw, StatesLaw, RowsLaw};
-ghost use Rattle.omos_model.specs.Laws.{ConflictLaw};
+ghost use Rattle.omos_model.specs.Laws.{ConflictLaw, CountsLaw};
 ghost use Rattle.omos_model.specs.Laws.{FootprintLaw, NextVersionLaw, OldVersionsLaw};
 ghost use Rattle.omos_model.specs.Laws.{FragmentLaw, LeavesLaw, LastPutLaw, OrderLaw, NameLaw};
 
@@ -44,6 +44,11 @@ pub fn files_hold_fragments()
 /// The leaves of an expansion are numbered from 0, from left to right.
 pub fn leaves_are_numbered()
     ensures { LeavesLaw }
+{}
+
+/// An expansion has at most 256 leaves, and at most 524,288 references.
+pub fn expansions_are_bounded()
+    ensures { CountsLaw }
 {}
 
 /// What stands under a path is what its last publish put there, and paths stand in order.

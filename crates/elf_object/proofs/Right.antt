@@ -1,0 +1,71 @@
+-- What a file without a fault lets its tables be read by.
+use Rattle.std.proofs.Common.{◌≡◌, ℕ, ◌+◌, ◌*◌, ◌<◌, ◌≤◌, ◌==◌, Bool, true, false, not, ◌&&◌}
+use Rattle.std.proofs.Common.{◌||◌, List, None, length, refl, arith}
+use Rattle.std.specs.Prelude.{nat_lt, nat_le}
+use Rattle.std.proofs.lemmas.Bool.{and_parts, or_parts, not-false, ltb-true, leb-true}
+use Rattle.std.proofs.lemmas.Bool.{not_from_false, not_from_true}
+use Rattle.omos_model.specs.Names.{is_symbol_name}
+use Rattle.omos_model.specs.ElfFields.{e_shnum, is_section, name_of, sh_offset, sh_size, sh_type}
+use Rattle.omos_model.specs.ElfFields.{symbol_count}
+use Rattle.omos_model.specs.ElfFaults.{has_name, is_kept, is_nobits, is_used_rela, lies_in_file}
+use Rattle.omos_model.specs.ElfFaults.{entry_count, is_right_rela, object_fault, rela}
+use Rattle.omos_model.proofs.RightFile.{IsSectionNumber, IsSymbolNumber, right_file}
+
+-- ---- tests joined
+
+rest_false : (a b : Bool) → (a && b) ≡ false → a ≡ true → b ≡ false
+rest_false true b h e = h
+rest_false false b h e = cc
+
+rest_true : (a b : Bool) → (a || b) ≡ true → a ≡ false → b ≡ true
+rest_true true b h e = cc
+rest_true false b h e = h
+
+-- ---- sections
+
+pub section_there : (file : List ℕ) (i : ℕ) → is_section file i ≡ true → i < e_shnum file
+section_there file i h = ltb-true i (e_shnum file) (and_parts _ _ h).1
+
+pub kept_there : (file : List ℕ) (i : ℕ) → is_kept file i ≡ true → i < e_shnum file
+kept_there file i h = section_there file i (and_parts _ _ (and_parts _ _ h).0).0
+
+numbered : (file : List ℕ) (i : ℕ) → is_section file i ≡ true → IsSectionNumber file i
+numbered file i h =
+    let low : 0 < i = ltb-true 0 i (and_parts _ _ h).0 in
+    let high : i < e_shnum file = section_there file i h in
+    record { low = omega arith; high = omega arith }
+
+-- a kept section that isn't NOBITS lies in the file
+pub kept_inside : (file : List ℕ) (i : ℕ) → object_fault file ≡ None → is_kept file i ≡ true
+    → is_nobits file i ≡ false → lies_in_file file i ≡ true
+kept_inside file i right kept bits =
+    let section = (and_parts _ _ (and_parts _ _ kept).0).0 in
+    let fine = rest_false (is_kept file i) _ ((right_file file right).sections i (numbered file i section)) kept in
+    not-false _ (rest_false (not (is_nobits file i)) (not (lies_in_file file i)) (or_parts _ _ fine).1 (not_from_false _ bits))
+
+-- ---- relocations
+
+pub record IsReadable (file : List ℕ) (i : ℕ) : Type 0 where
+  pub there : i < e_shnum file
+  pub inside : sh_offset file i + sh_size file i ≤ length file
+
+pub used_inside : (file : List ℕ) (i : ℕ) → object_fault file ≡ None → is_section file i ≡ true
+    → is_used_rela file i ≡ true → IsReadable file i
+used_inside file i right section used =
+    let fine = rest_false (sh_type file i == rela) _ ((right_file file right).relas i (numbered file i section)) (and_parts _ _ used).0 in
+    let all = not-false _ (rest_false (is_used_rela file i) (not (is_right_rela file i)) (or_parts _ _ fine).1 used) in
+    let a = and_parts _ _ (and_parts _ _ (and_parts _ _ all).0).0 in
+    record {
+      there = section_there file i section;
+      inside = leb-true (sh_offset file i + sh_size file i) (length file) (and_parts _ _ a.0).1;
+    }
+
+-- ---- symbols
+
+-- the name of a symbol that has one is a symbol name
+pub named : (file : List ℕ) (k : ℕ) → object_fault file ≡ None → 1 ≤ k → k < symbol_count file
+    → has_name file k ≡ true → is_symbol_name (name_of file k) ≡ true
+named file k right low high has =
+    let number : IsSymbolNumber file k = record { low = low; high = omega arith } in
+    let all = not-false _ ((right_file file right).symbols k number) in
+    (and_parts _ _ (rest_true (not (has_name file k)) _ (and_parts _ _ all).1 (not_from_true _ has))).1

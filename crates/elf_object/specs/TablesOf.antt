@@ -1,0 +1,17 @@
+-- What is kept of a file without a fault beside its bytes.
+use Rattle.std.specs.Prelude.{◌≡◌, ℕ, ◌+◌, ◌*◌, ◌<◌, ◌≤◌, List, length, None}
+use Rattle.omos_model.specs.ElfFields.{section_bytes, sh_link, sh_offset, symbol_count, symbol_table}
+use Rattle.omos_model.specs.ElfFaults.{object_fault}
+use Rattle.elf_object.specs.Stages.{HasHeaders}
+
+-- how many symbols there are, where symbol 0 begins, and their string table
+pub record AreSymbols (file : List ℕ) (count at : ℕ) (strings : List ℕ) : Type 0 where
+  pub counted : count ≡ symbol_count file
+  pub begins : 0 < count → at ≡ sh_offset file (symbol_table file)
+  pub inside : at + 24 * count ≤ length file
+  pub named : 0 < count → strings ≡ section_bytes file (sh_link file (symbol_table file))
+
+pub record AreTables (file : List ℕ) (count at : ℕ) (strings : List ℕ) : Type 0 where
+  pub right : object_fault file ≡ None
+  pub headers : HasHeaders file
+  pub symbols : AreSymbols file count at strings

@@ -1,0 +1,125 @@
+//! Symbols (System V gABI, chapter 4, "Symbol Table"), and which is the first that is wrong.
+
+ghost use Rattle.std.specs.Prelude.{◌≡◌, ◌+◌, ◌*◌, ◌/◌, ◌%◌, ◌<◌, ◌≤◌, ◌==◌, ◌&&◌, ◌||◌, not, drop, nat_le};
+ghost use Rattle.std.specs.List.{find, list_any, take_while};
+ghost use Rattle.omos_model.specs.Names.{is_symbol_name};
+ghost use Rattle.omos_model.specs.FragmentParts.{is_alignment, max_size};
+ghost use Rattle.omos_model.specs.ElfFields.{is_section, sh_size};
+ghost use Rattle.omos_model.specs.ElfFields.{st_info, symbol_at, symbols};
+ghost use Rattle.omos_model.specs.ElfFaults.{abs, common, is_kept, is_wrong_symbol, undef};
+ghost use Rattle.elf_words.specs.Sym.{sym_at};
+ghost use Rattle.elf_object.specs.Stages.{HasHeaders};
+ghost use Rattle.elf_object.specs.TablesOf.{AreSymbols};
+
+use crate::kept::{is_alignment, is_kept, is_section};
+use crate::names::{begins_with_name, rest_from};
+use crate::reads::section;
+use crate::symtab::Symbols;
+use elf_words::{Record, Sym};
+
+/// A symbol by its number.
+#[tactic(auto, unfolding(omos_base::specs::Fields::number_at))]
+pub(crate) fn symbol(file: &[u8], table: Symbols<'_>, k: u32) -> Sym
+    requires right { AreSymbols file.now table.count table.at table.strings.now }
+    requires there { k < table.count }
+    ensures read { result ≡ sym_at file.now (symbol_at file.now k) }
+    ensures info { result.st_info ≡ st_info file.now k }
+{
+    Sym::read_at(file, table.at + 24 * k as usize)
+}
+
+const STB_LOCAL: u8 = 0;
+
+const STB_GLOBAL: u8 = 1;
+
+const STB_WEAK: u8 = 2;
+
+const STT_COMMON: u8 = 5;
+
+const SHN_UNDEF: u16 = 0;
+
+const SHN_ABS: u16 = 0xfff1;
+
+const SHN_COMMON: u16 = 0xfff2;
+
+/// The largest common symbol, in bytes.
+const MAX_SIZE: u64 = 8_388_608;
+
+/// LOCAL, GLOBAL or WEAK, and no thread-local type.
+fn has_right_info(st_info: u8) -> bool
+    ensures { result ≡ (nat_le (st_info / 16) 2 && nat_le (st_info % 16) 5) }
+{
+    st_info / 16 <= STB_WEAK && st_info % 16 <= STT_COMMON
+}
+
+/// UNDEF but for LOCAL, ABS, COMMON for GLOBAL alone, or a section's number.
+fn has_right_section(file: &[u8], binding: u8, index: u16) -> bool
+    requires { HasHeaders file.now }
+    ensures { result ≡ ((not (binding == 0) && (index == undef)) || (index == abs)
+        || ((binding == 1) && (index == common)) || is_section file.now index) }
+{
+    (binding != STB_LOCAL && index == SHN_UNDEF)
+        || index == SHN_ABS
+        || (binding == STB_GLOBAL && index == SHN_COMMON)
+        || is_section(file, index as usize)
+}
+
+/// Within a kept section; a name of other objects' isn't of a section that isn't kept.
+fn has_right_value(file: &[u8], is_named: bool, index: u16, value: u64) -> bool
+    requires { HasHeaders file.now }
+    ensures { result ≡ ((not (is_kept file.now index) || nat_le value (sh_size file.now index))
+        && not (is_named && (is_section file.now index && not (is_kept file.now index)))) }
+{
+    if is_kept(file, index as usize) {
+        value <= section(file, index as usize).sh_size
+    } else {
+        !(is_named && is_section(file, index as usize))
+    }
+}
+
+/// A common symbol's value is its alignment.
+fn has_right_common(index: u16, value: u64, size: u64) -> bool
+    ensures { result ≡ (not (index == common)
+        || ((value == 0 || is_alignment value) && nat_le size max_size)) }
+{
+    index != SHN_COMMON || ((value == 0 || is_alignment(value)) && size <= MAX_SIZE)
+}
+
+/// A name of other objects' is a symbol name with a zero byte behind it in the string table.
+fn has_right_name(table: Symbols<'_>, is_named: bool, st_name: u32) -> bool
+    ensures { let bytes = drop st_name table.entry.strings.now in
+        result ≡ (not is_named || (list_any (λ b. b == 0) bytes
+        && is_symbol_name (take_while (λ b. not (b == 0)) bytes))) }
+{
+    !is_named || begins_with_name(rest_from(table.strings, st_name))
+}
+
+fn is_wrong_symbol(file: &[u8], table: Symbols<'_>, k: u32) -> bool
+    requires headers { HasHeaders file.now }
+    requires right { AreSymbols file.now table.count table.at table.strings.now }
+    requires there { k < table.count }
+    ensures { result ≡ is_wrong_symbol file.now k }
+{
+    let symbol = symbol(file, table, k);
+    let binding = symbol.st_info / 16;
+    let is_named = binding == STB_GLOBAL || binding == STB_WEAK;
+    !(has_right_info(symbol.st_info)
+        && has_right_section(file, binding, symbol.st_shndx)
+        && has_right_value(file, is_named, symbol.st_shndx, symbol.st_value)
+        && has_right_common(symbol.st_shndx, symbol.st_value, symbol.st_size)
+        && has_right_name(table, is_named, symbol.st_name))
+}
+
+/// The first symbol that is wrong.
+pub(crate) fn first_wrong(file: &[u8], table: Symbols<'_>) -> Option<u32>
+    requires headers { HasHeaders file.now }
+    requires right { AreSymbols file.now table.count table.at table.strings.now }
+    ensures { result ≡ find (is_wrong_symbol file.now) (symbols file.now) }
+{
+    for k in 1..table.count {
+        if is_wrong_symbol(file, table, k) {
+            return Some(k);
+        }
+    }
+    None
+}

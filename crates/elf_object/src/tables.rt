@@ -1,0 +1,145 @@
+//! The tables of an object file without a fault.
+
+ghost use Rattle.std.specs.Prelude.{◌≡◌, ◌+◌, ◌*◌, ◌/◌, ◌<◌, ◌≤◌, ◌==◌, [], None, IsTrue, if◌then◌else◌};
+ghost use Rattle.omos_base.specs.Fault.{MatchFault};
+ghost use Rattle.omos_model.specs.Names.{is_symbol_name};
+ghost use Rattle.omos_model.specs.ElfFields.{e_shnum, entry_at, header_at, name_of, section_bytes};
+ghost use Rattle.omos_model.specs.ElfFields.{is_section, st_info, symbol_at, symbol_count};
+ghost use Rattle.omos_model.specs.ElfFaults.{entry_count, has_name, is_kept, is_nobits, is_used_rela};
+ghost use Rattle.omos_model.specs.ElfFaults.{object_fault};
+ghost use Rattle.elf_words.specs.Rela.{rela_at};
+ghost use Rattle.elf_words.specs.Shdr.{shdr_at};
+ghost use Rattle.elf_words.specs.Sym.{sym_at};
+
+use crate::kept::{is_kept, is_nobits};
+use crate::names::name_at;
+use crate::reads::{bytes_of, count_of_sections, section};
+use crate::symbols::symbol;
+use crate::symtab::Symbols;
+use elf_words::{Record, Rela, Shdr, Sym};
+use std::marker::Model;
+
+/// The tables of an object file without a fault, that contracts see as the file's bytes. They
+/// lend these bytes; nothing is copied.
+#[derive(Drop)]
+pub struct Tables<'a> {
+    file: &'a [u8],
+    symbols: Symbols<'a>,
+}
+
+impl<'a> Model for Tables<'a> {
+    ghost use Rattle.std.specs.Prelude.{List, ℕ};
+
+    ghost Value = { List ℕ };
+
+    ghost use Rattle.elf_object.specs.TablesOf.{AreTables};
+
+    ghost view = { λ t. t.file.now };
+
+    ghost invariant = { λ t.
+        AreTables t.file.now t.symbols.count t.symbols.at t.symbols.strings.now };
+}
+
+impl Tables<'_> {
+    /// The file's bytes.
+    pub fn file(&self) -> &[u8]
+        ensures bytes { result.now ≡ self.now }
+        ensures right { object_fault self.now ≡ None }
+    {
+        self.file
+    }
+
+    /// How many sections there are, section 0 among them.
+    pub fn sections(&self) -> u32
+        ensures count { result ≡ e_shnum self.now }
+        ensures few { result ≤ 4096 }
+        ensures right { object_fault self.now ≡ None }
+    {
+        count_of_sections(self.file) as u32
+    }
+
+    /// The header of a section.
+    pub fn header(&self, i: u32) -> Shdr
+        requires { i < e_shnum self.now }
+        ensures { result ≡ shdr_at self.now (header_at self.now i) }
+    {
+        section(self.file, i as usize)
+    }
+
+    /// Whether a section is kept: it is to be loaded, and of a form that can be.
+    pub fn kept(&self, i: u32) -> bool
+        ensures { result ≡ is_kept self.now i }
+    {
+        is_kept(self.file, i as usize)
+    }
+
+    /// The bytes of a kept section, none where it is NOBITS.
+    pub fn bytes(&self, i: u32) -> &[u8]
+        requires { IsTrue (is_kept self.now i) }
+        ensures { result.now ≡ (if is_nobits self.now i then [] else section_bytes self.now i) }
+    {
+        if is_nobits(self.file, i as usize) {
+            &[]
+        } else {
+            bytes_of(self.file, i as usize)
+        }
+    }
+
+    /// How many symbols there are, symbol 0 among them, and 0 without a symbol table.
+    pub fn symbols(&self) -> u32
+        ensures count { result ≡ symbol_count self.now }
+        ensures right { object_fault self.now ≡ None }
+    {
+        self.symbols.count
+    }
+
+    /// A symbol.
+    pub fn symbol(&self, k: u32) -> Sym
+        requires { k < symbol_count self.now }
+        ensures read { result ≡ sym_at self.now (symbol_at self.now k) }
+        ensures info { result.st_info ≡ st_info self.now k }
+    {
+        symbol(self.file, self.symbols, k)
+    }
+
+    /// The name of a GLOBAL or WEAK symbol, which is a symbol name. It costs the name's bytes.
+    pub fn name(&self, k: u32) -> &[u8]
+        requires counted { 1 ≤ k }
+        requires there { k < symbol_count self.now }
+        requires named { IsTrue (has_name self.now k) }
+        ensures name { result.now ≡ name_of self.now k }
+        ensures lawful { IsTrue (is_symbol_name result.now) }
+    {
+        let symbol = symbol(self.file, self.symbols, k);
+        name_at(self.symbols, symbol.st_name)
+    }
+
+    /// Whether a section has relocations of a kept section.
+    pub fn is_used(&self, i: u32) -> bool
+        requires { i < e_shnum self.now }
+        ensures { result ≡ is_used_rela self.now i }
+    {
+        let header = section(self.file, i as usize);
+        header.sh_type == 4 && is_kept(self.file, header.sh_info as usize)
+    }
+
+    /// How many relocations there are in a section that has those of a kept section.
+    pub fn entries(&self, i: u32) -> u32
+        requires there { IsTrue (is_section self.now i) }
+        requires used { IsTrue (is_used_rela self.now i) }
+        ensures { result ≡ entry_count self.now i }
+    {
+        (section(self.file, i as usize).sh_size / 24) as u32
+    }
+
+    /// A relocation, by its section and its number in that.
+    pub fn entry(&self, i: u32, j: u32) -> Rela
+        requires there { IsTrue (is_section self.now i) }
+        requires used { IsTrue (is_used_rela self.now i) }
+        requires within { j < entry_count self.now i }
+        ensures { result ≡ rela_at self.now (entry_at self.now i j) }
+    {
+        let at = section(self.file, i as usize).sh_offset as usize;
+        Rela::read_at(self.file, at + 24 * j as usize)
+    }
+}

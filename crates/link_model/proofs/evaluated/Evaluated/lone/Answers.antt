@@ -1,0 +1,19 @@
+use Rattle.std.proofs.Common.{◌≡◌, List, [], ◌∷◌, ◌++◌, sym, ap, ◌∙◌}
+use Rattle.omos_model.specs.Names.{Name}
+use Rattle.omos_model.specs.declared.entry.Stamped.{Stamped}
+use Rattle.omos_model.specs.declared.entry.Start.TheVariants.{Named}
+use Rattle.link_model.proofs.Alone.{is_table_of}
+use Rattle.link_model.proofs.evaluated.Evaluated.lone.Goals as goal
+
+pub of_table-requires : goal.of_table-requires
+of_table-requires c =
+    let lawful = c.holds_fragment.ensures in
+    is_table_of c.in_ok-table.table c.args.path c.push.new.self
+    (Named c.in_ok-usual_start.field-0) c.args.entry c.in_ok-twin.field-0
+    (lawful.0, sym c.get.ensures ∙ lawful.1, lawful.2) c.in_ok-twin.ensures c.in_ok-table.ensures
+    (
+    c.in_ok-push.ensures.added
+    ∙ ap (λ (xs : List Stamped). xs ++ record { path = c.copy.result; stamp = 1; entry = c.args.entry } ∷ []) c.new-footprint.ensures
+    ∙ ap (λ (p : Name). record { path = p; stamp = 1; entry = c.args.entry } ∷ []) c.copy.ensures
+    )
+    (ap Named c.in_ok-usual_start.ensures)

@@ -1,0 +1,13 @@
+//! Laws of evaluated modules, each the contract of a function that does nothing.
+
+ghost use Rattle.link_model.specs.Laws.{BoundsLaw, OwnPlanLaw};
+
+/// A module has at most 256 leaves, and at most 524,288 references.
+pub fn modules_are_bounded()
+    ensures { BoundsLaw }
+{}
+
+/// A module's plan is that of its path on the namespace that its footprint lists.
+pub fn modules_have_their_plan()
+    ensures { OwnPlanLaw }
+{}

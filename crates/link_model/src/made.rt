@@ -1,0 +1,83 @@
+//! Evaluated modules that are made from tables.
+
+ghost use Rattle.std.specs.Prelude.{◌≡◌, IfOk};
+ghost use Rattle.omos_model.specs.FragmentParts.{FragmentParts, IsFragment};
+ghost use Rattle.module_table.specs.Stands.{IsObject};
+ghost use Rattle.link_model.specs.Module.{IsTableOf, alone, terms_with};
+ghost use Rattle.link_model.specs.Program.{start_name};
+
+use crate::evaluated::Evaluated;
+use crate::landed;
+use module_table::Table;
+use omos_base::{Fault, NoMemory, PathName, Row, Shared, SymName};
+use omos_model::{Entry, Stamped, Start};
+use std::alloc::Global;
+
+/// An entry's object is a fragment. Nothing is run.
+fn holds_fragment(entry: &Entry)
+    requires { IsObject entry.now }
+    ensures { (f : FragmentParts) × (entry.now ≡ Entry.Object f) × IsFragment f }
+{
+    let Entry::Object(fragment) = entry else {
+        unreachable!()
+    };
+    let _pieces = fragment.pieces();
+}
+
+/// The name of a program's start where no other is given.
+fn usual_start(alloc: Global) -> Result<SymName, NoMemory>
+    ensures { IfOk result (λ name. name ≡ start_name) }
+{
+    match SymName::read(alloc, b"_start") {
+        Ok(name) => Ok(name),
+        Err(Fault::NoMemory) => Err(NoMemory),
+        Err(Fault::Refused(_)) => unreachable!(),
+    }
+}
+
+impl Evaluated {
+    /// The evaluation of a path on the namespace that its footprint lists, by the table of its
+    /// term. It costs a look-up for each name and for each reference that is open.
+    pub fn of_table(
+        alloc: Global,
+        path: PathName,
+        table: &Table,
+        footprint: Row<Stamped>,
+        start: Start,
+        lo: u64,
+        hi: u64,
+    ) -> Result<Evaluated, NoMemory>
+        requires { IsTableOf table.now path footprint (terms_with start lo hi) }
+        ensures { IfOk result (λ m. (m.path ≡ path) × (m.footprint ≡ footprint)) }
+    {
+        let leaves = landed::leaves(alloc, table)?;
+        let landings = landed::landings(alloc, table)?;
+        let names = landed::names(alloc, table)?;
+        Ok(Evaluated::of(path, leaves, landings, names, footprint, start, lo, hi))
+    }
+
+    /// The evaluation of an object's path on the namespace that holds it alone, with stamp 1.
+    pub fn lone(alloc: Global, path: PathName, entry: Shared<Entry>) -> Result<Evaluated, NoMemory>
+        requires { IsObject entry }
+        ensures { IfOk result (λ m. (m.path ≡ path) × (m.footprint ≡ alone path entry)) }
+    {
+        holds_fragment(entry.get());
+        let table = Table::leaf(alloc, 0, entry.twin()?)?;
+        let mut footprint = Row::new(alloc);
+        footprint.push(Stamped {
+            path: path.copy(),
+            stamp: 1,
+            entry,
+        })?;
+        let start = Start::Named(usual_start(alloc)?);
+        Evaluated::of_table(
+            alloc,
+            path,
+            &table,
+            footprint,
+            start,
+            0x40_0000,
+            0x4000_0000,
+        )
+    }
+}
