@@ -5,3 +5,5 @@ pub mod Painting
 pub mod Sectioned
 pub mod Slotted
 pub mod Patched
+pub mod Standing
+pub mod Lawful

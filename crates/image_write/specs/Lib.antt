@@ -9,3 +9,4 @@ pub mod Painted
 pub mod Sections
 pub mod Addresses
 pub mod Fields
+pub mod Standing

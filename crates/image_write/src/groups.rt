@@ -1,11 +1,11 @@
 //! Where the groups of a module stand.
 
-ghost use Rattle.std.specs.Prelude.{◌≡◌, ◌^◌, ◌≤◌, length};
+ghost use Rattle.std.specs.Prelude.{◌≡◌, ◌^◌, ◌≤◌, All, length};
 ghost use Rattle.link_model.specs.Layout.{pieces_of, slots_of};
 ghost use Rattle.link_model.specs.Program.{Parts};
 ghost use Rattle.image_write.specs.ByGroup.{AreNear};
 ghost use Rattle.image_write.specs.Groups.{AreGroups, begins_of, end_behind};
-ghost use Rattle.image_write.specs.Pieces.{all_pieces};
+ghost use Rattle.image_write.specs.Pieces.{IsLawful, all_pieces};
 
 use crate::by_group::ByGroup;
 use crate::offsets::{aligned, pages_of};
@@ -63,6 +63,7 @@ pub fn groups_of(leaves: &[Shared<Entry>], slots: usize) -> Groups
         → length (slots_of parts) ≡ slots → AreGroups result parts }
     ensures sizes_near { AreNear (2 ^ 49) result.sizes }
     ensures begins_near { AreNear (2 ^ 52) result.begins }
+    ensures lawful { All IsLawful leaves.now }
 {
     let ends = ends_of(leaves);
     let sizes = ByGroup {

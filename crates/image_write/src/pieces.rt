@@ -1,10 +1,10 @@
 //! How far the pieces of leaves reach in each group.
 
-ghost use Rattle.std.specs.Prelude.{◌≡◌, ◌+◌, ◌^◌, ◌≤◌, fold, length};
+ghost use Rattle.std.specs.Prelude.{◌≡◌, ◌+◌, ◌^◌, ◌≤◌, All, fold, length};
 ghost use Rattle.omos_model.specs.declared.fragment.Group.{Group};
 ghost use Rattle.link_model.specs.Layout.{begin_of, end_of, end_with};
 ghost use Rattle.image_write.specs.ByGroup.{AreNear, bytes_of};
-ghost use Rattle.image_write.specs.Pieces.{AreBounded, IsBounded, all_pieces, pieces_in};
+ghost use Rattle.image_write.specs.Pieces.{AreBounded, IsBounded, IsLawful, all_pieces, pieces_in};
 
 use crate::by_group::ByGroup;
 use crate::offsets::aligned;
@@ -15,6 +15,7 @@ use omos_model::{Entry, Piece};
 pub fn pieces_in(leaf: &Shared<Entry>) -> &[Piece]
     ensures pieces { result.now ≡ pieces_in leaf.now }
     ensures bounded { AreBounded result.now }
+    ensures lawful { IsLawful leaf.now }
 {
     match leaf.get() {
         Entry::Object(fragment) => fragment.pieces(),
@@ -53,6 +54,7 @@ pub fn ends_of(leaves: &[Shared<Entry>]) -> ByGroup
     requires { length leaves.now ≤ 256 }
     ensures ends { (g : Group) → bytes_of result g ≡ end_of g (all_pieces leaves.now) }
     ensures near { AreNear (2 ^ 48) result }
+    ensures lawful { All IsLawful leaves.now }
 {
     let mut ends = ByGroup {
         code: 0,
