@@ -7,3 +7,4 @@ pub mod Slotted
 pub mod Patched
 pub mod Standing
 pub mod Lawful
+pub mod Inside
