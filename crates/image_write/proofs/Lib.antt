@@ -8,3 +8,4 @@ pub mod Patched
 pub mod Standing
 pub mod Lawful
 pub mod Inside
+pub mod Bytes

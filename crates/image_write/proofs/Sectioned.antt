@@ -89,7 +89,7 @@ leaf-inside n m places leaves k row leaf h lt ex ey e =
     (subst (IsLeafInside n) (pair-at places leaves k row leaf h.count lt ex ey)
     (h.each k (row, leaf) (let same = h.count in omega (arith, length-zip places leaves))))
 
-placed-more : (places : List (List ℕ)) (leaves : List Entry) (row : List ℕ) (leaf : Entry) → length row ≡ length (pieces_in leaf)
+pub placed-more : (places : List (List ℕ)) (leaves : List Entry) (row : List ℕ) (leaf : Entry) → length row ≡ length (pieces_in leaf)
     → placed_in (row ∷ places) (leaf ∷ leaves) ≡ zip row (pieces_in leaf) ++ placed_in places leaves
 placed-more places leaves row leaf same =
     zip-append row (flat_map (λ (r : List ℕ). r) places) (pieces_in leaf) (all_pieces leaves) same
