@@ -4,7 +4,7 @@ use Rattle.std.specs.Prelude.{if◌then◌else◌, is_some, slice_get, slice_ind
 use Rattle.std.specs.List.{find, flat_map, zip}
 use Rattle.std.specs.Option.{option_map, option_or}
 use Rattle.std.proofs.lemmas.Bool.Decides.{nat_tests}
-use Rattle.std.proofs.lemmas.List.{get_or-map, get_or-replicate, length-map, same_lists}
+use Rattle.std.proofs.lemmas.List.{get_or-map, get_or-replicate, get_or_default, length-map, length-replicate, same_lists}
 use Rattle.std.proofs.lemmas.List.Elements.{All-append, All-head, All-nil, All-same, All-tail}
 use Rattle.std.proofs.lemmas.Slice.Zip.{length-zip, get_or-zip}
 use Rattle.omos_base.specs.Endian.{little_bytes}
@@ -130,3 +130,56 @@ first-same plan leaves x lt same h lawful =
     (find-agree (λ y. covers y.0 (length y.1.bytes) x) (λ y. covers y.0 y.1.size x) (placed_in plan.places leaves)
     (all-agree plan.parts x lt plan.places leaves h.count h.each lawful))
     ∙ ap (λ ps. option_map (byte_at x) (find (λ y. covers y.0 y.1.size x) (zip (flat_map (λ (row : List ℕ). row) plan.places) ps))) (sym same)
+
+-- ---- the whole
+
+length-numbers : (start n : ℕ) → length (numbers_from start n) ≡ n
+length-numbers start zero = refl
+length-numbers start (suc n) = ap suc (length-numbers (start + 1) n)
+
+get_or-numbers : (start n k d : ℕ) → k < n → get_or (numbers_from start n) k d ≡ start + k
+get_or-numbers start zero k d h = absurd (omega arith)
+get_or-numbers start (suc n) zero d h = omega arith
+get_or-numbers start (suc n) (suc k) d h =
+    let e = get_or-numbers (start + 1) n k d (omega arith) in omega (arith, e)
+
+byte-same : (plan : Plan) (base : ℕ) (table : SlotTable) (leaves : List Entry) → SlotsStand plan base table
+    → pieces_of plan.parts ≡ all_pieces leaves → LeavesStand plan.parts plan.places leaves → All IsLawful leaves
+    → (x : ℕ) → x < file_size plan.parts
+    → unwrap_or (option_or (last_byte plan.places table base (references plan.parts) x)
+    (option_or (slots_byte plan.places base plan.slots (slots_begin plan.parts) (length plan.slots) x)
+    (first_byte (placed_in plan.places leaves) x))) 0
+    ≡ byte_of plan base x
+byte-same plan base table leaves slots same h lawful x lt =
+    λ i.
+    unwrap_or
+    (option_or (last-same plan base table slots x i) (option_or (slots-same plan base x i) (first-same plan leaves x lt same h lawful i))) 0
+
+pub body-bytes : (plan : Plan) (base : ℕ) (table : SlotTable) (leaves : List Entry) (new : List ℕ) → SlotsStand plan base table
+    → pieces_of plan.parts ≡ all_pieces leaves → LeavesStand plan.parts plan.places leaves → All IsLawful leaves
+    → Painted new (λ x.
+    option_or (last_byte plan.places table base (references plan.parts) x)
+    (option_or (slots_byte plan.places base plan.slots (slots_begin plan.parts) (length plan.slots) x)
+    (first_byte (placed_in plan.places leaves) x))) (replicate (file_size plan.parts) 0)
+    → new ≡ map (byte_of plan base) (numbers_from 0 (file_size plan.parts))
+body-bytes plan base table leaves new slots same h lawful painted =
+    let n = file_size plan.parts in
+    let zeros : length (replicate n 0) ≡ n = length-replicate n 0 in
+    let numbers = length-numbers 0 n in
+    let size = painted.size in
+    same_lists new (map (byte_of plan base) (numbers_from 0 n))
+    (painted.size ∙ zeros ∙ sym (length-map (numbers_from 0 n) (byte_of plan base) ∙ numbers))
+    (λ k d lt.
+        let within : k < n = omega (arith, size, zeros) in
+        let zero_is : get_or (replicate n 0) k 0 ≡ 0 = get_or-replicate n k 0 0 within in
+        get_or_default new k d 0 lt
+        ∙ painted.each k (omega (arith, zeros))
+        ∙ (λ i.
+            unwrap_or (option_or (last_byte plan.places table base (references plan.parts) k)
+            (option_or (slots_byte plan.places base plan.slots (slots_begin plan.parts) (length plan.slots) k)
+            (first_byte (placed_in plan.places leaves) k))) (zero_is i))
+        ∙ byte-same plan base table leaves slots same h lawful k within
+        ∙ sym (get_or-map (byte_of plan base) (numbers_from 0 n) k 0 d (omega (arith, numbers)) ∙ ap (byte_of plan base) (get_or-numbers 0 n k 0 within ∙ plus k)))
+  where
+    plus : (k : ℕ) → 0 + k ≡ k
+    plus k = omega arith

@@ -10,3 +10,4 @@ pub mod Sections
 pub mod Addresses
 pub mod Fields
 pub mod Standing
+pub mod Filled

@@ -14,3 +14,4 @@ mod headers;
 mod sections;
 mod slots;
 mod fields;
+mod body;
