@@ -25,11 +25,11 @@ use Rattle.link_model.specs.Program.{Parts, Reference, object_of, references}
 use Rattle.image_write.specs.declared.slots.SlotTable.{SlotTable}
 use Rattle.image_write.specs.Addresses.{address_in, slot_in, slots_byte}
 use Rattle.image_write.specs.Fields.{field_in, last_byte, overflow_in}
+use Rattle.image_write.specs.Groups.{file_size}
 use Rattle.image_write.specs.Painted.{Painted}
 use Rattle.image_write.specs.Pieces.{IsLawful, all_pieces, pieces_in}
 use Rattle.image_write.specs.Sections.{Placed, byte_at, first_byte, placed_in}
 use Rattle.image_write.specs.Standing.{LeafStands, LeavesStand, Stands}
-use Rattle.image_write.proofs.Inside.{file_size}
 use Rattle.image_write.proofs.Lawful.{piece-bytes, tested}
 use Rattle.image_write.proofs.Sectioned.{placed-more}
 
@@ -173,7 +173,7 @@ body-bytes plan base table leaves new slots same h lawful painted =
         let within : k < n = omega (arith, size, zeros) in
         let zero_is : get_or (replicate n 0) k 0 ≡ 0 = get_or-replicate n k 0 0 within in
         get_or_default new k d 0 lt
-        ∙ painted.each k (omega (arith, zeros))
+        ∙ painted.each k (subst (λ (m : ℕ). k < m) (sym zeros) within)
         ∙ (λ i.
             unwrap_or (option_or (last_byte plan.places table base (references plan.parts) k)
             (option_or (slots_byte plan.places base plan.slots (slots_begin plan.parts) (length plan.slots) k)

@@ -18,6 +18,7 @@ use Rattle.link_model.specs.Layout.{aligned, all_pages, end_of, end_with_slots, 
 use Rattle.link_model.specs.Program.{Parts, object_of}
 use Rattle.image_write.specs.Addresses.{AreLow, max_place, place_in}
 use Rattle.image_write.specs.Fields.{AreFieldsInside, IsFieldInside}
+use Rattle.image_write.specs.Groups.{file_size}
 use Rattle.image_write.specs.Pieces.{IsLawful, pieces_in}
 use Rattle.image_write.specs.Sections.{AreInside, IsInside, IsLeafInside, Placed}
 use Rattle.image_write.specs.Slots.{fixups_in}
@@ -26,10 +27,6 @@ use Rattle.image_write.proofs.Lawful.{piece-bytes, tested}
 use Rattle.image_write.proofs.Sectioned.{pair-at}
 
 -- ---- groups
-
--- how many bytes the pages of Code, Consts and Vars have
-abbrev pub file_size : Parts → ℕ
-file_size parts = page * (group_pages Code parts + group_pages Consts parts + group_pages Vars parts)
 
 in-pages : (size : ℕ) → size ≤ page * pages_of size
 in-pages size = omega arith

@@ -9,3 +9,4 @@ pub mod Standing
 pub mod Lawful
 pub mod Inside
 pub mod Bytes
+pub mod Soundness

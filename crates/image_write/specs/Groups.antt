@@ -1,6 +1,7 @@
 -- Where the groups of a program stand.
 use Rattle.std.specs.Prelude.{◌≡◌, ℕ, ◌+◌, ◌*◌, ◌==◌, if◌then◌else◌}
 use Rattle.omos_model.specs.declared.fragment.Group.{Group}
+use Rattle.omos_model.specs.declared.fragment.Group.TheVariants.{Zeros}
 use Rattle.link_model.specs.Program.{Parts}
 use Rattle.link_model.specs.Layout.{aligned, group_begin, group_size, page, pages_of, slots_begin}
 use Rattle.image_write.specs.declared.by_group.ByGroup.{ByGroup}
@@ -26,3 +27,7 @@ pub record AreGroups (x : Groups) (parts : Parts) : Type 0 where
   pub sizes : (g : Group) → bytes_of x.sizes g ≡ group_size g parts
   pub begins : (g : Group) → bytes_of x.begins g ≡ group_begin g parts
   pub slots : x.slots ≡ slots_begin parts
+
+-- how many bytes the pages of Code, Consts and Vars have
+abbrev pub file_size : Parts → ℕ
+file_size parts = group_begin Zeros parts

@@ -11,3 +11,5 @@ pub mod Addresses
 pub mod Fields
 pub mod Standing
 pub mod Filled
+pub mod Sound
+pub mod Written

@@ -5,11 +5,14 @@ ghost use Rattle.link_model.specs.Layout.{pieces_of, slots_of};
 ghost use Rattle.link_model.specs.Program.{Parts};
 ghost use Rattle.image_write.specs.ByGroup.{AreNear};
 ghost use Rattle.image_write.specs.Groups.{AreGroups, begins_of, end_behind};
+ghost use Rattle.image_write.specs.Sound.{IsLaid, IsSound};
 ghost use Rattle.image_write.specs.Pieces.{IsLawful, all_pieces};
 
 use crate::by_group::ByGroup;
 use crate::offsets::{aligned, pages_of};
 use crate::pieces::ends_of;
+use link_model::laws::modules_are_bounded;
+use link_model::{Evaluated, Layout};
 use omos_base::Shared;
 use omos_model::Entry;
 
@@ -76,4 +79,13 @@ pub fn groups_of(leaves: &[Shared<Entry>], slots: usize) -> Groups
         begins,
         slots: begins.vars + aligned(8, ends.vars),
     }
+}
+
+/// Where the groups of a laid out module stand, and that all it places lies in the file.
+pub fn groups_in(evaluated: &Evaluated, layout: &Layout) -> Groups
+    requires laid { IsLaid evaluated.now layout.now }
+    ensures sound { IsSound result evaluated.now layout.now }
+{
+    modules_are_bounded();
+    groups_of(evaluated.leaves(), layout.slots().len())
 }

@@ -15,3 +15,4 @@ mod sections;
 mod slots;
 mod fields;
 mod body;
+mod write;
