@@ -39,7 +39,7 @@ pub address-same : (plan : Plan) (base : ℕ) (t : Target) → address_in plan.p
 address-same plan base (Inside leaf piece offset) = refl
 address-same plan base (Fixed value) = refl
 
-abbrev SlotsStand : Plan → ℕ → SlotTable → Type 0
+abbrev pub SlotsStand : Plan → ℕ → SlotTable → Type 0
 SlotsStand plan base table = (t : Target) → slot_in table t ≡ slot_address plan base t
 
 field-same : (plan : Plan) (base : ℕ) (table : SlotTable) → SlotsStand plan base table → (r : Reference)

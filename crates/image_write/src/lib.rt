@@ -15,4 +15,6 @@ mod sections;
 mod slots;
 mod fields;
 mod body;
-mod write;
+mod file;
+
+pub use file::write;

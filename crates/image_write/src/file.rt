@@ -65,3 +65,37 @@ fn fill_behind(
     let (_, body) = bytes.as_mut_slice().split_at_mut(head);
     fill(body, ground, begin, evaluated, layout)
 }
+
+/// The file of a laid out module at a base: a static executable (System V gABI, chapters 4 and 5).
+///
+/// The layout is the module's, the base is a whole page, and the pages end at 2^47 at most. It
+/// refuses the first field whose value doesn't fit: L13. The cost is that of the file's bytes and
+/// of the references, with one look-up for each that asks for a slot.
+pub fn write(
+    alloc: Global,
+    evaluated: &Evaluated,
+    layout: &Layout,
+    base: u64,
+) -> Result<Bytes, Fault<Refusal>>
+    requires laid { IsLaid evaluated.now layout.now }
+    requires page { base % 4096 ≡ 0 }
+    requires range { base + 4096 * layout.now.pages ≤ 2 ^ 47 }
+    ensures written { Writes evaluated.now base result }
+{
+    let groups = groups_in(evaluated, layout);
+    let table = SlotTable::of(alloc, layout.slots(), base + groups.slots)?;
+    let ground = Ground {
+        places: layout.places(),
+        table: &table,
+        base,
+    };
+    let entry = entry_in(evaluated, ground.places, base);
+    let mut page = page_in(alloc, &groups, base, entry)?;
+    let head = page.len();
+    page.push_zeros(groups.begins.zeros as usize)?;
+    let mut bytes = page.into_vec();
+    match fill_behind(&mut bytes, head, &ground, groups.slots as usize, evaluated, layout) {
+        Ok(()) => Ok(Bytes::from_vec(bytes)),
+        Err(refusal) => Err(Fault::Refused(refusal)),
+    }
+}
