@@ -1,5 +1,5 @@
 -- The bytes that are written are those of the plan's image.
-use Rattle.std.proofs.Common.{◌≡◌, ℕ, zero, suc, ◌+◌, ◌-◌, ◌*◌, ◌/◌, ◌%◌, ◌<◌, ◌≤◌, List, [], ◌∷◌, ◌++◌, All, length, get_or, map, reverse, replicate, Bool, true, false, cond, Option, Some, None, unwrap_or, refl, sym, ap, subst, ◌∙◌, arith}
+use Rattle.std.proofs.Common.{◌≡◌, ℕ, zero, suc, ◌+◌, ◌-◌, ◌*◌, ◌/◌, ◌%◌, ◌<◌, List, [], ◌∷◌, ◌++◌, All, length, get_or, map, reverse, replicate, Bool, true, false, Some, None, unwrap_or, refl, sym, ap, subst, ◌∙◌, arith}
 use Rattle.std.specs.Prelude.{if◌then◌else◌, is_some, slice_get, slice_index}
 use Rattle.std.specs.List.{find, flat_map, zip}
 use Rattle.std.specs.Option.{option_map, option_or}
@@ -15,10 +15,9 @@ use Rattle.omos_model.specs.declared.fragment.Group.{Group}
 use Rattle.omos_model.specs.declared.fragment.Group.TheVariants.{Code, Consts, Vars, Zeros}
 use Rattle.omos_model.specs.declared.mark.Target.{Target}
 use Rattle.omos_model.specs.declared.mark.Target.TheVariants.{Inside, Fixed}
-use Rattle.omos_model.specs.declared.refusal.Refusal.{Refusal}
 use Rattle.omos_model.specs.declared.refusal.Refusal.TheVariants.{Overflow}
 use Rattle.link_model.specs.Field.{field_value}
-use Rattle.link_model.specs.ImageBytes.{address_of, byte_of, covers, field_byte, field_of, field_place, is_field_at, overflow_at, piece_byte, placed_pieces, slot_address, slot_byte}
+use Rattle.link_model.specs.ImageBytes.{address_of, byte_of, covers, field_byte, field_of, field_place, is_field_at, overflow_at, piece_byte, slot_address, slot_byte}
 use Rattle.link_model.specs.Layout.{group_begin, pieces_of, slots_begin, target_at}
 use Rattle.link_model.specs.Plan.{Plan, first_in}
 use Rattle.link_model.specs.Program.{Parts, Reference, object_of, references}
@@ -170,16 +169,16 @@ body-bytes plan base table leaves new slots same h lawful painted =
     same_lists new (map (byte_of plan base) (numbers_from 0 n))
     (painted.size ∙ zeros ∙ sym (length-map (numbers_from 0 n) (byte_of plan base) ∙ numbers))
     (λ k d lt.
-        let within : k < n = omega (arith, size, zeros) in
-        let zero_is : get_or (replicate n 0) k 0 ≡ 0 = get_or-replicate n k 0 0 within in
-        get_or_default new k d 0 lt
-        ∙ painted.each k (subst (λ (m : ℕ). k < m) (sym zeros) within)
-        ∙ (λ i.
-            unwrap_or (option_or (last_byte plan.places table base (references plan.parts) k)
-            (option_or (slots_byte plan.places base plan.slots (slots_begin plan.parts) (length plan.slots) k)
-            (first_byte (placed_in plan.places leaves) k))) (zero_is i))
-        ∙ byte-same plan base table leaves slots same h lawful k within
-        ∙ sym (get_or-map (byte_of plan base) (numbers_from 0 n) k 0 d (omega (arith, numbers)) ∙ ap (byte_of plan base) (get_or-numbers 0 n k 0 within ∙ plus k)))
+    let within : k < n = omega (arith, size, zeros) in
+    let zero_is : get_or (replicate n 0) k 0 ≡ 0 = get_or-replicate n k 0 0 within in
+    get_or_default new k d 0 lt
+    ∙ painted.each k (subst (λ (m : ℕ). k < m) (sym zeros) within)
+    ∙ (λ i.
+    unwrap_or (option_or (last_byte plan.places table base (references plan.parts) k)
+    (option_or (slots_byte plan.places base plan.slots (slots_begin plan.parts) (length plan.slots) k)
+    (first_byte (placed_in plan.places leaves) k))) (zero_is i))
+    ∙ byte-same plan base table leaves slots same h lawful k within
+    ∙ sym (get_or-map (byte_of plan base) (numbers_from 0 n) k 0 d (omega (arith, numbers)) ∙ ap (byte_of plan base) (get_or-numbers 0 n k 0 within ∙ plus k)))
   where
     plus : (k : ℕ) → 0 + k ≡ k
     plus k = omega arith

@@ -6,9 +6,8 @@ use Rattle.omos_model.specs.declared.fragment.Group.TheVariants.{Code, Consts, V
 use Rattle.omos_model.specs.declared.fragment.Piece.{Piece}
 use Rattle.omos_model.specs.declared.mark.Target.{Target}
 use Rattle.link_model.specs.Program.{Parts}
-use Rattle.link_model.specs.Layout.{aligned, end_of, end_with_slots, group_begin, group_size, page, pages_of, pieces_of, slots_begin, slots_of}
+use Rattle.link_model.specs.Layout.{aligned, end_of, end_with_slots, group_begin, group_size, page, pages_of, pieces_of, slots_of}
 use Rattle.image_write.specs.declared.by_group.ByGroup.{ByGroup}
-use Rattle.image_write.specs.declared.groups.Groups.{Groups}
 use Rattle.image_write.specs.ByGroup.{AreNear, bytes_of}
 use Rattle.image_write.specs.Groups.{AreGroups, begins_of, end_behind}
 

@@ -1,15 +1,14 @@
 -- The file that is written is the image.
-use Rattle.std.proofs.Common.{◌≡◌, ℕ, ◌+◌, ◌-◌, ◌*◌, ◌≤◌, List, [], ◌∷◌, ◌++◌, length, take, drop, map, replicate, Option, Some, None, Result, Ok, Err, unwrap_or, refl, sym, ap, subst, ◌∙◌, arith}
+use Rattle.std.proofs.Common.{◌≡◌, ℕ, ◌+◌, ◌-◌, ◌*◌, List, ◌++◌, length, take, drop, map, replicate, Some, None, Ok, Err, unwrap_or, sym, ap, subst, ◌∙◌, arith}
 use Rattle.std.specs.Option.{option_map}
 use Rattle.std.proofs.lemmas.List.{drop_at, length-append, length-replicate, take-append-drop, take_at}
 use Rattle.omos_base.specs.Fields.{zeros}
 use Rattle.omos_model.specs.Numbers.{numbers_from}
 use Rattle.omos_model.specs.declared.fragment.Group.TheVariants.{Zeros}
-use Rattle.omos_model.specs.declared.mark.Target.{Target}
 use Rattle.omos_model.specs.declared.refusal.Refusal.{Refusal}
-use Rattle.link_model.specs.ImageBytes.{address_of, byte_of, entry_address, file_bytes, header_page, image_bytes, overflow, unless_overflow}
+use Rattle.link_model.specs.ImageBytes.{byte_of, entry_address, file_bytes, header_page, image_bytes, overflow, unless_overflow}
 use Rattle.link_model.specs.Layout.{slot_number}
-use Rattle.link_model.specs.Module.{Module, Placing, found, parts_of_module}
+use Rattle.link_model.specs.Module.{Module, Placing, found}
 use Rattle.link_model.specs.Plan.{Plan, entry_of}
 use Rattle.link_model.specs.Program.{references}
 use Rattle.image_write.specs.declared.groups.Groups.{Groups}
@@ -67,13 +66,13 @@ written-ok x m l table base entry head items new page sound h en pn bn hn kept f
     let plan = plan_with m l in
     let slots = slots-stand x m l table base sound h in
     let old : drop head items ≡ replicate (file_size plan.parts) 0 =
-      rest-zeros items page head x.begins.zeros bn hn ∙ ap (λ n. replicate n 0) (sound.groups.begins Zeros) in
+    rest-zeros items page head x.begins.zeros bn hn ∙ ap (λ n. replicate n 0) (sound.groups.begins Zeros) in
     let body : drop head new ≡ map (byte_of plan base) (numbers_from 0 (file_size plan.parts)) =
-      body-bytes plan base table m.leaves (drop head new) slots sound.same sound.stand sound.lawful
-      (subst (λ (xs : List ℕ). Painted (drop head new) (filled_byte plan base table m.leaves) xs) old filled.painted) in
+    body-bytes plan base table m.leaves (drop head new) slots sound.same sound.stand sound.lawful
+    (subst (λ (xs : List ℕ). Painted (drop head new) (filled_byte plan base table m.leaves) xs) old filled.painted) in
     let front : take head new ≡ header_page plan base =
-      kept ∙ ap (take head) bn ∙ take_at page (replicate x.begins.zeros 0) head (sym hn) ∙ pn
-      ∙ page-same x plan base entry sound.groups (en ∙ entry-same plan base) in
+    kept ∙ ap (take head) bn ∙ take_at page (replicate x.begins.zeros 0) head (sym hn) ∙ pn
+    ∙ page-same x plan base entry sound.groups (en ∙ entry-same plan base) in
     image-ok plan base new (sym (overflow-same plan base table slots (references plan.parts)) ∙ filled.fit)
     (sym (take-append-drop head new) ∙ (λ i. front i ++ body i))
 

@@ -1,11 +1,10 @@
 -- The header page of a plan, from where its groups stand.
-use Rattle.std.proofs.Common.{◌≡◌, ℕ, ◌-◌, ◌==◌, not, List, ◌∷◌, [], ◌++◌, length, map, sym, ap, ◌∙◌}
+use Rattle.std.proofs.Common.{◌≡◌, ℕ, ◌-◌, ◌==◌, not, ◌∷◌, [], ◌++◌, length, map}
 use Rattle.std.specs.Prelude.{filter, replicate}
 use Rattle.std.specs.List.{flat_map}
 use Rattle.omos_base.specs.Fields.{zeros}
 use Rattle.elf_words.specs.Ehdr.{ehdr_bytes}
 use Rattle.elf_words.specs.Phdr.{phdr_bytes}
-use Rattle.elf_words.specs.declared.phdr.Phdr.{Phdr}
 use Rattle.link_model.specs.Layout.{page}
 use Rattle.link_model.specs.Plan.{Plan}
 use Rattle.link_model.specs.ImageBytes.{entry_address, header_page, headers, program_headers, stack}

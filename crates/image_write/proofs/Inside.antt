@@ -1,7 +1,6 @@
 -- What stands in its group lies in the file.
-use Rattle.std.proofs.Common.{◌≡◌, ℕ, ◌+◌, ◌-◌, ◌*◌, ◌/◌, ◌<◌, ◌≤◌, ◌^◌, List, [], ◌∷◌, All, length, get_or, Bool, true, false, Option, Some, None, unwrap_or, inl, inr, refl, sym, ap, subst, ◌∙◌, arith, rules, tests}
+use Rattle.std.proofs.Common.{◌≡◌, ℕ, ◌+◌, ◌*◌, ◌<◌, ◌≤◌, List, [], ◌∷◌, All, length, get_or, Bool, true, false, Option, unwrap_or, inl, inr, refl, sym, ap, subst, ◌∙◌, arith}
 use Rattle.std.specs.Prelude.{if◌then◌else◌, nat_le, not, ◌&&◌, slice_get}
-use Rattle.std.specs.List.{zip}
 use Rattle.std.specs.Option.{option_map_or}
 use Rattle.std.proofs.lemmas.Bool.{and_parts, false≢true, leb-true, not-true}
 use Rattle.std.proofs.lemmas.List.{get_or_default, get_or_past}
@@ -114,11 +113,11 @@ leaf-inside parts x h lawful =
     record {
       count = h.count;
       each = λ k d lt.
-        let n = h.count in
-        let m = length-zip x.0 (pieces_in x.1) in
-        let e = get_or-zip x.0 (pieces_in x.1) k d (omega (arith, m)) (omega (arith, m)) in
-        subst (IsInside (file_size parts)) (sym e)
-        (stands-inside parts _ (subst (Stands parts) e (h.each k d lt)) ((tested (object_of x.1) lawful).pieces k d.1 (omega (arith, m))));
+          let n = h.count in
+          let m = length-zip x.0 (pieces_in x.1) in
+          let e = get_or-zip x.0 (pieces_in x.1) k d (omega (arith, m)) (omega (arith, m)) in
+          subst (IsInside (file_size parts)) (sym e)
+          (stands-inside parts _ (subst (Stands parts) e (h.each k d lt)) ((tested (object_of x.1) lawful).pieces k d.1 (omega (arith, m))));
     }
 
 pub all-inside : (parts : Parts) (places : List (List ℕ)) (leaves : List Entry) → LeavesStand parts places leaves
@@ -127,11 +126,11 @@ all-inside parts places leaves h lawful =
     record {
       count = h.count;
       each = λ k d lt.
-        let n = h.count in
-        let m = length-zip places leaves in
-        let e = get_or-zip places leaves k d (omega (arith, m)) (omega (arith, m)) in
-        subst (IsLeafInside (file_size parts)) (sym e)
-        (leaf-inside parts _ (subst (LeafStands parts) e (h.each k d lt)) (lawful k d.1 (omega (arith, m))));
+          let n = h.count in
+          let m = length-zip places leaves in
+          let e = get_or-zip places leaves k d (omega (arith, m)) (omega (arith, m)) in
+          subst (IsLeafInside (file_size parts)) (sym e)
+          (leaf-inside parts _ (subst (LeafStands parts) e (h.each k d lt)) (lawful k d.1 (omega (arith, m))));
     }
 
 low-row : (parts : Parts) (row : List ℕ) (leaf : Entry) (j : ℕ) → LeafStands parts (row, leaf) → all_pages parts ≤ 2047
@@ -139,10 +138,10 @@ low-row : (parts : Parts) (row : List ℕ) (leaf : Entry) (j : ℕ) → LeafStan
 low-row parts row leaf j h few =
     let n = h.count in
     elim (slice_get_cases (pieces_in leaf) j).1 [
-      inl w ↦
-        let s : get_or row j 0 ≤ page * all_pages parts = stands-low parts (get_or row j 0, w.0) (piece-at parts row leaf j w.0 h w.1 (sym w.3)) in
-        omega (arith, s)
-    | inr w ↦ let e = get_or_past row j 0 (omega (arith, w.0)) in omega (arith, e)
+      | inl w ↦
+          let s : get_or row j 0 ≤ page * all_pages parts = stands-low parts (get_or row j 0, w.0) (piece-at parts row leaf j w.0 h w.1 (sym w.3)) in
+          omega (arith, s)
+      | inr w ↦ let e = get_or_past row j 0 (omega (arith, w.0)) in omega (arith, e)
     ]
 
 pub all-low : (parts : Parts) (places : List (List ℕ)) (leaves : List Entry) → LeavesStand parts places leaves
@@ -152,11 +151,11 @@ all-low parts places leaves h few = record { low = λ leaf piece. subst (λ n. n
   each leaf piece =
       let n = h.count in
       elim (slice_get_cases leaves leaf).1 [
-        inl w ↦ low-row parts (get_or places leaf []) w.0 piece (leaf-at parts places leaves leaf w.0 h w.1 (sym w.3)) few
-      | inr w ↦
-        let e : get_or places leaf [] ≡ [] = get_or_past places leaf [] (omega (arith, w.0)) in
-        let z : get_or (get_or places leaf []) piece 0 ≡ 0 = ap (λ (row : List ℕ). get_or row piece 0) e in
-        omega (arith, z)
+        | inl w ↦ low-row parts (get_or places leaf []) w.0 piece (leaf-at parts places leaves leaf w.0 h w.1 (sym w.3)) few
+        | inr w ↦
+            let e : get_or places leaf [] ≡ [] = get_or_past places leaf [] (omega (arith, w.0)) in
+            let z : get_or (get_or places leaf []) piece 0 ≡ 0 = ap (λ (row : List ℕ). get_or row piece 0) e in
+            omega (arith, z)
       ]
 
 -- ---- fields
@@ -167,20 +166,20 @@ field-inside parts places leaves k leaf x h fix =
     let field = (and_parts (is_field (pieces_in leaf) x.piece x.offset (width x.kind)) (is_aim (pieces_in leaf) x.aim) fix).0 in
     let row = get_or places k [] in
     elim (slice_get_cases (pieces_in leaf) x.piece).1 [
-      inl w ↦
-        let is : (not (is_zeros w.0.group) && nat_le (x.offset + width x.kind) w.0.size) ≡ true =
+      | inl w ↦
+          let is : (not (is_zeros w.0.group) && nat_le (x.offset + width x.kind) w.0.size) ≡ true =
           sym (ap (λ (o : Option Piece). option_map_or (λ p. not (is_zeros p.group) && nat_le (x.offset + width x.kind) p.size) o false) w.2) ∙ field in
-        let both = and_parts (not (is_zeros w.0.group)) (nat_le (x.offset + width x.kind) w.0.size) is in
-        let fits = leb-true (x.offset + width x.kind) w.0.size both.1 in
-        let s : Stands parts (get_or row x.piece 0, w.0) = piece-at parts row leaf x.piece w.0 h w.1 (sym w.3) in
-        let end = end-inside w.0.group parts in
-        let all = in-file w.0.group parts (not-true (is_zeros w.0.group) both.0) in
-        let place = place-in places k x.piece in
-        record { inside = omega (arith, s.to, end, all, fits, place) }
-    | inr w ↦
-      absurd
-      (false≢true
-      (sym (ap (λ (o : Option Piece). option_map_or (λ p. not (is_zeros p.group) && nat_le (x.offset + width x.kind) p.size) o false) w.1) ∙ field))
+          let both = and_parts (not (is_zeros w.0.group)) (nat_le (x.offset + width x.kind) w.0.size) is in
+          let fits = leb-true (x.offset + width x.kind) w.0.size both.1 in
+          let s : Stands parts (get_or row x.piece 0, w.0) = piece-at parts row leaf x.piece w.0 h w.1 (sym w.3) in
+          let end = end-inside w.0.group parts in
+          let all = in-file w.0.group parts (not-true (is_zeros w.0.group) both.0) in
+          let place = place-in places k x.piece in
+          record { inside = omega (arith, s.to, end, all, fits, place) }
+      | inr w ↦
+          absurd
+          (false≢true
+          (sym (ap (λ (o : Option Piece). option_map_or (λ p. not (is_zeros p.group) && nat_le (x.offset + width x.kind) p.size) o false) w.1) ∙ field))
     ]
 
 pub fields-inside : (parts : Parts) (places : List (List ℕ)) (leaves : List Entry) → LeavesStand parts places leaves
@@ -188,6 +187,6 @@ pub fields-inside : (parts : Parts) (places : List (List ℕ)) (leaves : List En
 fields-inside parts places leaves h lawful =
     record {
       each = λ k leaf lt e j d within.
-        field-inside parts places leaves k leaf (get_or (fixups_in leaf) j d) (leaf-at parts places leaves k leaf h lt e)
-        ((tested (object_of leaf) (subst IsLawful (sym e) (lawful k leaf lt))).fixups j d within);
+          field-inside parts places leaves k leaf (get_or (fixups_in leaf) j d) (leaf-at parts places leaves k leaf h lt e)
+          ((tested (object_of leaf) (subst IsLawful (sym e) (lawful k leaf lt))).fixups j d within);
     }

@@ -1,12 +1,11 @@
 -- What holds of the pieces and fixups of a lawful fragment.
-use Rattle.std.proofs.Common.{◌≡◌, ℕ, ◌+◌, ◌≤◌, List, [], ◌∷◌, All, length, Bool, true, false, Option, Some, None, ◌==◌, refl, sym, ap, subst, ◌∙◌, arith, rules, tests}
-use Rattle.std.specs.Prelude.{if◌then◌else◌, nat_le, not, ◌&&◌, slice_get}
+use Rattle.std.proofs.Common.{◌≡◌, ◌≤◌, All, length, true, rules, tests}
+use Rattle.std.specs.Prelude.{if◌then◌else◌, nat_le, ◌&&◌}
 use Rattle.std.specs.List.{list_all}
-use Rattle.std.proofs.lemmas.Bool.{and_parts, eqb-true, leb-true}
+use Rattle.std.proofs.lemmas.Bool.{and_parts, leb-true}
 use Rattle.std.proofs.lemmas.List.Elements.{All-weaker}
 use Rattle.std.proofs.lemmas.List.Sums.{AllPass-from_list_all}
-use Rattle.omos_model.specs.FragmentParts.{FragmentParts, IsFragment, are_distinct, is_alignment, is_fixup, is_fragment, is_in_bounds, is_piece, is_spot, is_zeros, max_entries, max_pieces, max_size, width}
-use Rattle.omos_model.specs.declared.fragment.Fixup.{Fixup}
+use Rattle.omos_model.specs.FragmentParts.{FragmentParts, IsFragment, are_distinct, is_fixup, is_in_bounds, is_piece, is_spot, is_zeros, max_entries, max_pieces}
 use Rattle.omos_model.specs.declared.fragment.Piece.{Piece}
 use Rattle.image_write.specs.Pieces.{AreBounded, IsBounded}
 

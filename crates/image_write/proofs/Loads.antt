@@ -1,6 +1,5 @@
 -- Program headers of one group after another.
 use Rattle.std.proofs.Common.{◌≡◌, ℕ, ◌+◌, ◌==◌, ◌<◌, List, [], ◌∷◌, ◌++◌, length, map, take, get_or, not, sym, ap, ◌∙◌}
-use Rattle.std.specs.Prelude.{filter}
 use Rattle.std.proofs.lemmas.List.Elements.{filter-append}
 use Rattle.std.proofs.lemmas.List.{map-append, take_more}
 use Rattle.elf_words.specs.declared.phdr.Phdr.{Phdr}

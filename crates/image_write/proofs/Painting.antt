@@ -1,11 +1,10 @@
 -- Writes over a list of bytes, one after another.
-use Rattle.std.proofs.Common.{◌≡◌, ℕ, ◌+◌, ◌-◌, ◌<◌, ◌≤◌, List, [], ◌∷◌, ◌++◌, length, get_or, take, drop, Option, Some, None, Bool, true, false, unwrap_or, refl, sym, ap, ◌∙◌, arith, rules, inl, inr}
+use Rattle.std.proofs.Common.{◌≡◌, ℕ, ◌+◌, ◌-◌, ◌<◌, ◌≤◌, List, ◌++◌, length, get_or, take, drop, Option, Some, None, unwrap_or, refl, sym, ap, ◌∙◌, arith, rules, inl, inr}
 use Rattle.std.proofs.lemmas.Bool.{cases_lt}
-use Rattle.std.specs.Prelude.{if◌then◌else◌, slice_index, ◌&&◌, nat_le, nat_lt}
+use Rattle.std.specs.Prelude.{slice_index}
 use Rattle.std.specs.Option.{option_map, option_or}
-use Rattle.std.proofs.lemmas.List.{places, length-append, length-take, length-drop}
+use Rattle.std.proofs.lemmas.List.{places}
 use Rattle.std.proofs.lemmas.Bool.Decides.{nat_tests}
-use Rattle.link_model.specs.ImageBytes.{covers}
 use Rattle.image_write.specs.Painted.{Painted, run_at}
 
 -- nothing is written
@@ -29,8 +28,8 @@ painted-then {new} {mid} {old} {p} {q} later before =
     record {
       size = later.size ∙ before.size;
       each = λ x lt.
-        let within : x < length mid = omega (arith, before.size) in
-        later.each x within ∙ ap (unwrap_or (q x)) (before.each x lt) ∙ or_else (p x) (q x) (slice_index old x);
+          let within : x < length mid = omega (arith, before.size) in
+          later.each x within ∙ ap (unwrap_or (q x)) (before.each x lt) ∙ or_else (p x) (q x) (slice_index old x);
     }
 
 -- a function of one of two
@@ -72,18 +71,18 @@ painted-run old at bytes fits =
     record {
       size = search (rules, places);
       each = λ x lt.
-        elim (cases_lt x at) [
-          inl below ↦
-            with_run-below old at bytes x fits below
-            ∙ (λ i. unwrap_or (sym (run_at-below at bytes x below) i) (slice_index old x))
-        | inr from ↦
-          elim (cases_lt x (at + length bytes)) [
-            inl to ↦
-              with_run-inside old at bytes x fits from to
-              ∙ (λ i. unwrap_or (sym (run_at-inside at bytes x from to) i) (slice_index old x))
-          | inr behind ↦
-            with_run-behind old at bytes x fits behind
-            ∙ (λ i. unwrap_or (sym (run_at-behind at bytes x behind) i) (slice_index old x))
-          ]
-        ];
+          elim (cases_lt x at) [
+            | inl below ↦
+                with_run-below old at bytes x fits below
+                ∙ (λ i. unwrap_or (sym (run_at-below at bytes x below) i) (slice_index old x))
+            | inr from ↦
+                elim (cases_lt x (at + length bytes)) [
+                  | inl to ↦
+                      with_run-inside old at bytes x fits from to
+                      ∙ (λ i. unwrap_or (sym (run_at-inside at bytes x from to) i) (slice_index old x))
+                  | inr behind ↦
+                      with_run-behind old at bytes x fits behind
+                      ∙ (λ i. unwrap_or (sym (run_at-behind at bytes x behind) i) (slice_index old x))
+                ]
+          ];
     }

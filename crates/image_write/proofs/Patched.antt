@@ -1,6 +1,6 @@
 -- Fields that are written one after another.
-use Rattle.std.proofs.Common.{◌≡◌, ℕ, ◌+◌, ◌-◌, ◌*◌, ◌<◌, ◌≤◌, ◌^◌, ◌%◌, List, [], ◌∷◌, ◌++◌, length, get_or, take, drop, map, reverse, min, zero, suc, Option, Some, None, Bool, true, false, unwrap_or, refl, sym, ap, subst, ◌∙◌, arith}
-use Rattle.std.specs.Prelude.{is_some, slice_index, if◌then◌else◌, ℤ}
+use Rattle.std.proofs.Common.{◌≡◌, ℕ, ◌+◌, ◌-◌, ◌<◌, ◌≤◌, List, [], ◌∷◌, ◌++◌, length, get_or, take, drop, map, reverse, min, zero, suc, Option, Some, None, Bool, true, false, unwrap_or, refl, sym, ap, subst, ◌∙◌, arith}
+use Rattle.std.specs.Prelude.{is_some, slice_index, if◌then◌else◌}
 use Rattle.std.specs.Int.{bytes_low_first}
 use Rattle.std.specs.List.{enumerate_from, find, flat_map, zip}
 use Rattle.std.specs.Option.{option_map, option_or}
@@ -66,23 +66,28 @@ module _ (places : List (List ℕ)) (table : SlotTable) (base : ℕ) where
         fit = no_overflow (field_in places table base r) (Overflow r.leaf r.number) field e;
         painted = painted-as (last_byte places table base (r ∷ [])) run (λ x _. same x);
       } where
-    w : ℕ
-    w = width r.fixup.kind
-    at : ℕ
-    at = field_place_in places r
-    bytes : List ℕ
-    bytes = little_bytes w field
-    n : length bytes ≡ w
-    n = length-bytes 0 w field
-    run : Painted new (run_at at bytes) old
-    run =
-        subst (λ (xs : List ℕ). Painted xs (run_at at bytes) old)
-        ((λ i. take at old ++ bytes ++ drop (at + n i) old) ∙ sym en) (painted-run old at bytes (omega (arith, n)))
-    same : (x : ℕ) → run_at at bytes x ≡ last_byte places table base (r ∷ []) x
-    same x =
-        (λ i. if covers at (n i) x then Some (slice_index bytes (x - at)) else None)
-        ∙ (λ i. if covers at w x then Some (slice_index (little_bytes w (unwrap_or (sym e i) 0)) (x - at)) else None)
-        ∙ sym (chosen (covers at w x) (byte_in places table base x) r)
+        w : ℕ
+        w = width r.fixup.kind
+
+        at : ℕ
+        at = field_place_in places r
+
+        bytes : List ℕ
+        bytes = little_bytes w field
+
+        n : length bytes ≡ w
+        n = length-bytes 0 w field
+
+        run : Painted new (run_at at bytes) old
+        run =
+            subst (λ (xs : List ℕ). Painted xs (run_at at bytes) old)
+            ((λ i. take at old ++ bytes ++ drop (at + n i) old) ∙ sym en) (painted-run old at bytes (omega (arith, n)))
+
+        same : (x : ℕ) → run_at at bytes x ≡ last_byte places table base (r ∷ []) x
+        same x =
+            (λ i. if covers at (n i) x then Some (slice_index bytes (x - at)) else None)
+            ∙ (λ i. if covers at w x then Some (slice_index (little_bytes w (unwrap_or (sym e i) 0)) (x - at)) else None)
+            ∙ sym (chosen (covers at w x) (byte_in places table base x) r)
 
   pub patched-append : (rs ts : List Reference) (new mid old : List ℕ) → IsPatched places table base rs mid old
       → IsPatched places table base ts new mid → IsPatched places table base (rs ++ ts) new old
@@ -90,14 +95,14 @@ module _ (places : List (List ℕ)) (table : SlotTable) (base : ℕ) where
       record {
         fit = first_in-append (overflow_in places table base) rs ts ∙ (λ i. option_or (before.fit i) (later.fit i));
         painted =
-          painted-as (last_byte places table base (rs ++ ts)) (painted-then later.painted before.painted)
-          (λ x _.
-              either (byte_in places table base x) (find (is_at x) (reverse ts)) (find (is_at x) (reverse rs))
-              ∙ ap (option_map (byte_in places table base x)) (sym (find-append (is_at x) (reverse ts) (reverse rs)))
-              ∙ ap (λ xs. option_map (byte_in places table base x) (find (is_at x) xs)) (sym (reverse-append rs ts)));
+            painted-as (last_byte places table base (rs ++ ts)) (painted-then later.painted before.painted)
+            (λ x _.
+            either (byte_in places table base x) (find (is_at x) (reverse ts)) (find (is_at x) (reverse rs))
+            ∙ ap (option_map (byte_in places table base x)) (sym (find-append (is_at x) (reverse ts) (reverse rs)))
+            ∙ ap (λ xs. option_map (byte_in places table base x) (find (is_at x) xs)) (sym (reverse-append rs ts)));
       } where
-    is_at : ℕ → Reference → Bool
-    is_at x r = covers (field_place_in places r) (width r.fixup.kind) x
+        is_at : ℕ → Reference → Bool
+        is_at x r = covers (field_place_in places r) (width r.fixup.kind) x
 
 -- ---- the references of a leaf
 
@@ -110,14 +115,14 @@ leaf-more leaf fixups landings i f l lt ef el =
     let m = length-enumerate_from 0 zipped in
     let k = length-map (enumerate_from 0 zipped) (reference_of leaf) in
     let here : get_or (references_of leaf fixups landings) i (reference_of leaf (i, (f, l))) ≡ reference_of leaf (i, (f, l)) =
-      get_or-map (reference_of leaf) (enumerate_from 0 zipped) i (i, (f, l)) _ (omega (arith, n, m))
-      ∙ ap (reference_of leaf)
-      (get_or-enumerate_from 0 zipped i (i, (f, l)) (omega (arith, n))
-      ∙ (λ j. (zero_more i j, (get_or-zip fixups landings i (f, l) (omega arith) (omega arith) ∙ (λ h. (sym ef h, sym el h))) j))) in
+    get_or-map (reference_of leaf) (enumerate_from 0 zipped) i (i, (f, l)) _ (omega (arith, n, m))
+    ∙ ap (reference_of leaf)
+    (get_or-enumerate_from 0 zipped i (i, (f, l)) (omega (arith, n))
+    ∙ (λ j. (zero_more i j, (get_or-zip fixups landings i (f, l) (omega arith) (omega arith) ∙ (λ h. (sym ef h, sym el h))) j))) in
     take_more (references_of leaf fixups landings) i (reference_of leaf (i, (f, l))) (omega (arith, n, m, k))
     ∙ (λ j. take i (references_of leaf fixups landings) ++ here j ∷ []) where
-  zero_more : (j : ℕ) → 0 + j ≡ j
-  zero_more j = omega arith
+      zero_more : (j : ℕ) → 0 + j ≡ j
+      zero_more j = omega arith
 
 pub leaf-all : (leaf : ℕ) (fixups : List Fixup) (landings : List Landing) (i : ℕ) → min (length fixups) (length landings) ≤ i
     → take i (references_of leaf fixups landings) ≡ references_of leaf fixups landings
@@ -148,16 +153,19 @@ leaves-more leaves landings i leaf row row' fixups same lt el er row_is fixups_i
     let k = length-map zipped part_with in
     let m = length-enumerate_from 0 (map part_with zipped) in
     let here : get_or (parts_in leaves landings) i (i, part_with (leaf, row)) ≡ (i, part_with (leaf, row)) =
-      get_or-enumerate_from 0 (map part_with zipped) i (i, part_with (leaf, row)) (omega (arith, n, k))
-      ∙ (λ j. (zero_more i j, (get_or-map part_with zipped i (leaf, row) (part_with (leaf, row)) (omega (arith, n))
-      ∙ ap part_with (get_or-zip leaves landings i (leaf, row) lt (omega arith) ∙ (λ h. (sym el h, sym er h)))) j)) in
+    get_or-enumerate_from 0 (map part_with zipped) i (i, part_with (leaf, row)) (omega (arith, n, k))
+    ∙ (λ j. (
+      zero_more i j,
+      (get_or-map part_with zipped i (leaf, row) (part_with (leaf, row)) (omega (arith, n))
+          ∙ ap part_with (get_or-zip leaves landings i (leaf, row) lt (omega arith) ∙ (λ h. (sym el h, sym er h)))) j,
+    )) in
     ap (flat_map references_in)
     (take_more (parts_in leaves landings) i (i, part_with (leaf, row)) (omega (arith, n, k, m)) ∙ (λ j. take i (parts_in leaves landings) ++ here j ∷ []))
     ∙ flat_map-append references_in (take i (parts_in leaves landings)) ((i, part_with (leaf, row)) ∷ [])
     ∙ ap (λ xs. flat_map references_in (take i (parts_in leaves landings)) ++ xs) (append-nil (references_of i (fixups_in leaf) row))
     ∙ (λ j. flat_map references_in (take i (parts_in leaves landings)) ++ references_of i (sym fixups_is j) (sym row_is j)) where
-  zero_more : (j : ℕ) → 0 + j ≡ j
-  zero_more j = omega arith
+      zero_more : (j : ℕ) → 0 + j ≡ j
+      zero_more j = omega arith
 
 pub leaves-all : (leaves : List Entry) (landings : List (List Landing)) (i : ℕ) → length landings ≡ length leaves → length leaves ≤ i
     → flat_map references_in (take i (parts_in leaves landings)) ≡ flat_map references_in (parts_in leaves landings)

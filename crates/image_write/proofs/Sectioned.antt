@@ -1,5 +1,5 @@
 -- Pieces that are copied from the last to the first.
-use Rattle.std.proofs.Common.{◌≡◌, ℕ, ◌+◌, ◌<◌, List, [], ◌∷◌, ◌++◌, All, length, get_or, take, drop, Option, Some, None, Bool, true, false, refl, sym, ap, subst, ◌∙◌, arith}
+use Rattle.std.proofs.Common.{◌≡◌, ℕ, ◌+◌, ◌<◌, List, [], ◌∷◌, ◌++◌, All, length, get_or, drop, Option, Some, None, Bool, true, false, refl, sym, ap, subst, ◌∙◌, arith}
 use Rattle.std.specs.Prelude.{if◌then◌else◌}
 use Rattle.std.specs.List.{find, flat_map, zip}
 use Rattle.std.specs.Option.{option_map, option_or}
@@ -75,9 +75,9 @@ pub leaf-goes : (places : List ℕ) (pieces : List Piece) (k at place : ℕ) (p 
 leaf-goes places pieces k at place p new mid old same lt ex ep next later before =
     painted-as (first_byte (drop k (zip places pieces))) (painted-then later before)
     (λ x _.
-        ap (λ n. option_or (run_at place p.bytes x) (first_byte (drop n (zip places pieces)) x)) next
-        ∙ first_byte-next (place, p) (drop (k + 1) (zip places pieces)) x
-        ∙ ap (λ ys. first_byte ys x) (sym (zip-from places pieces k place p same lt ex ep)))
+    ap (λ n. option_or (run_at place p.bytes x) (first_byte (drop n (zip places pieces)) x)) next
+    ∙ first_byte-next (place, p) (drop (k + 1) (zip places pieces)) x
+    ∙ ap (λ ys. first_byte ys x) (sym (zip-from places pieces k place p same lt ex ep)))
 
 -- ---- all leaves
 
@@ -102,12 +102,12 @@ pub leaves-go : (places : List (List ℕ)) (leaves : List Entry) (k at : ℕ) (r
 leaves-go places leaves k at row row' leaf ps new mid old same lt ex ey count er ep next later before =
     painted-as (first_byte (placed_in (drop k places) (drop k leaves))) (painted-then later before)
     (λ x _.
-        (λ i. option_or (first_byte (zip (er i) (ep i)) x) (first_byte (placed_in (drop (next i) places) (drop (next i) leaves)) x))
-        ∙ first_byte-append (zip row (pieces_in leaf)) (placed_in (drop (k + 1) places) (drop (k + 1) leaves)) x
-        ∙ ap (λ ys. first_byte ys x) (sym (placed-more (drop (k + 1) places) (drop (k + 1) leaves) row leaf count))
-        ∙ (λ i. first_byte (placed_in (sym (from places row (omega arith) ex) i) (sym (from leaves leaf lt ey) i)) x)) where
-  from : {X : Type 0} (xs : List X) (y : X) → k < length xs → y ≡ get_or xs k y → drop k xs ≡ y ∷ drop (k + 1) xs
-  from xs y h e = drop_more xs k y h ∙ (λ i. sym e i ∷ drop (k + 1) xs)
+    (λ i. option_or (first_byte (zip (er i) (ep i)) x) (first_byte (placed_in (drop (next i) places) (drop (next i) leaves)) x))
+    ∙ first_byte-append (zip row (pieces_in leaf)) (placed_in (drop (k + 1) places) (drop (k + 1) leaves)) x
+    ∙ ap (λ ys. first_byte ys x) (sym (placed-more (drop (k + 1) places) (drop (k + 1) leaves) row leaf count))
+    ∙ (λ i. first_byte (placed_in (sym (from places row (omega arith) ex) i) (sym (from leaves leaf lt ey) i)) x)) where
+      from : {X : Type 0} (xs : List X) (y : X) → k < length xs → y ≡ get_or xs k y → drop k xs ≡ y ∷ drop (k + 1) xs
+      from xs y h e = drop_more xs k y h ∙ (λ i. sym e i ∷ drop (k + 1) xs)
 
 pub leaf-each : (m : ℕ) (row row' : List ℕ) (leaf : Entry) (ps : List Piece) → IsLeafInside m (row, leaf)
     → row' ≡ row → ps ≡ pieces_in leaf → All (IsInside m) (zip row' ps)

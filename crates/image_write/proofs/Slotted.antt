@@ -1,5 +1,5 @@
 -- The table of slots, filled from the last, and the slots' bytes.
-use Rattle.std.proofs.Common.{◌≡◌, ℕ, ◌+◌, ◌-◌, ◌*◌, ◌/◌, ◌%◌, ◌<◌, ◌≤◌, List, [], ◌∷◌, ◌++◌, length, get_or, take, drop, not, cond, Option, Some, None, Bool, true, false, unwrap_or, refl, sym, ap, subst, ◌∙◌, arith, rules, inl, inr}
+use Rattle.std.proofs.Common.{◌≡◌, ℕ, ◌+◌, ◌-◌, ◌*◌, ◌/◌, ◌%◌, ◌<◌, ◌≤◌, List, ◌∷◌, length, get_or, drop, not, cond, Option, Some, None, Bool, true, false, unwrap_or, refl, sym, ap, subst, ◌∙◌, arith, inl, inr}
 use Rattle.std.specs.Prelude.{slice_get, slice_index, if◌then◌else◌}
 use Rattle.std.specs.Map.{lookup}
 use Rattle.std.specs.Option.{option_map, option_or}
@@ -80,38 +80,39 @@ slots_byte-next : (places : List (List ℕ)) (base : ℕ) (slots : List Target) 
     ≡ slots_byte places base slots begin (i + 1) x
 slots_byte-next places base slots begin i target bytes x lt et eb n =
     elim (cases_lt x begin) [
-      inl below ↦
-        none_both _ _ _ (run_at-below (begin + 8 * i) bytes x (omega arith))
-        (if_none _ inner (covers-below begin (8 * i) x below))
-        (if_none _ inner (covers-below begin (8 * (i + 1)) x below))
-    | inr from ↦
-      elim (cases_lt x (begin + 8 * i)) [
-        inl old ↦
-          from_second _ _ _ inner (run_at-below (begin + 8 * i) bytes x old)
-          (if_some _ inner (covers-yes begin (8 * i) x from old))
-          (if_some _ inner (covers-yes begin (8 * (i + 1)) x from (omega arith)))
-      | inr new ↦
-        elim (cases_lt x (begin + 8 * i + 8)) [
-          inl now ↦
-            from_first _ _ _ _ (run_at-inside (begin + 8 * i) bytes x new (omega arith))
-            (if_some _ inner (covers-yes begin (8 * (i + 1)) x from (omega arith)) ∙ here new now)
-        | inr behind ↦
-          none_both _ _ _ (run_at-behind (begin + 8 * i) bytes x (omega arith))
-          (if_none _ inner (covers-behind begin (8 * i) x (omega arith)))
-          (if_none _ inner (covers-behind begin (8 * (i + 1)) x (omega arith)))
-        ]
-      ]
+      | inl below ↦
+          none_both _ _ _ (run_at-below (begin + 8 * i) bytes x (omega arith))
+          (if_none _ inner (covers-below begin (8 * i) x below))
+          (if_none _ inner (covers-below begin (8 * (i + 1)) x below))
+      | inr from ↦
+          elim (cases_lt x (begin + 8 * i)) [
+            | inl old ↦
+                from_second _ _ _ inner (run_at-below (begin + 8 * i) bytes x old)
+                (if_some _ inner (covers-yes begin (8 * i) x from old))
+                (if_some _ inner (covers-yes begin (8 * (i + 1)) x from (omega arith)))
+            | inr new ↦
+                elim (cases_lt x (begin + 8 * i + 8)) [
+                  | inl now ↦
+                      from_first _ _ _ _ (run_at-inside (begin + 8 * i) bytes x new (omega arith))
+                      (if_some _ inner (covers-yes begin (8 * (i + 1)) x from (omega arith)) ∙ here new now)
+                  | inr behind ↦
+                      none_both _ _ _ (run_at-behind (begin + 8 * i) bytes x (omega arith))
+                      (if_none _ inner (covers-behind begin (8 * i) x (omega arith)))
+                      (if_none _ inner (covers-behind begin (8 * (i + 1)) x (omega arith)))
+                ]
+          ]
     ] where
-  inner : Option ℕ
-  inner = slot_byte_in places base slots begin x
-  here : begin + 8 * i ≤ x → x < begin + 8 * i + 8 → inner ≡ Some (slice_index bytes (x - (begin + 8 * i)))
-  here h k =
-      let q : (x - begin) / 8 ≡ i = omega arith in
-      let m : (x - begin) % 8 ≡ x - (begin + 8 * i) = omega arith in
-      (λ j. option_map (λ t. slice_index (little_bytes 8 (address_in places base t)) (m j)) (slice_get slots (q j)))
-      ∙ ap (option_map (λ t. slice_index (little_bytes 8 (address_in places base t)) (x - (begin + 8 * i))))
-      (slice_get_read slots (length slots) i target refl lt et)
-      ∙ (λ j. Some (slice_index (sym eb j) (x - (begin + 8 * i))))
+      inner : Option ℕ
+      inner = slot_byte_in places base slots begin x
+
+      here : begin + 8 * i ≤ x → x < begin + 8 * i + 8 → inner ≡ Some (slice_index bytes (x - (begin + 8 * i)))
+      here h k =
+          let q : (x - begin) / 8 ≡ i = omega arith in
+          let m : (x - begin) % 8 ≡ x - (begin + 8 * i) = omega arith in
+          (λ j. option_map (λ t. slice_index (little_bytes 8 (address_in places base t)) (m j)) (slice_get slots (q j)))
+          ∙ ap (option_map (λ t. slice_index (little_bytes 8 (address_in places base t)) (x - (begin + 8 * i))))
+          (slice_get_read slots (length slots) i target refl lt et)
+          ∙ (λ j. Some (slice_index (sym eb j) (x - (begin + 8 * i))))
 
 pub slots-go : (places : List (List ℕ)) (base : ℕ) (slots : List Target) (begin i value : ℕ) (target : Target) (new mid old : List ℕ)
     → i < length slots → value ≡ address_in places base target → target ≡ get_or slots i target
@@ -121,6 +122,6 @@ slots-go places base slots begin i value target new mid old lt ev et fits en bef
     let fits' : begin + 8 * i + 8 ≤ length mid = omega (arith, before.size) in
     let run : Painted (with_number 8 (begin + 8 * i) value mid) (run_at (begin + 8 * i) (little_bytes 8 value)) mid = painted-run mid (begin + 8 * i) (little_bytes 8 value) fits' in
     let later : Painted new (run_at (begin + 8 * i) (little_bytes 8 value)) mid =
-      subst (λ (xs : List ℕ). Painted xs (run_at (begin + 8 * i) (little_bytes 8 value)) mid) (sym en) run in
+    subst (λ (xs : List ℕ). Painted xs (run_at (begin + 8 * i) (little_bytes 8 value)) mid) (sym en) run in
     painted-as (slots_byte places base slots begin (i + 1)) (painted-then later before)
     (λ x _. slots_byte-next places base slots begin i target (little_bytes 8 value) x lt et (ap (little_bytes 8) ev) refl)

@@ -1,7 +1,6 @@
 -- A laid out module is sound.
-use Rattle.std.proofs.Common.{◌≡◌, ℕ, ◌+◌, ◌*◌, ◌^◌, ◌<◌, ◌≤◌, List, [], ◌∷◌, ◌++◌, All, length, map, Option, Some, None, Result, Ok, Err, refl, sym, ap, subst, ◌∙◌, arith}
-use Rattle.std.specs.Prelude.{if◌then◌else◌, nat_lt}
-use Rattle.std.specs.List.{flat_map, zip}
+use Rattle.std.proofs.Common.{◌≡◌, ℕ, ◌^◌, ◌≤◌, List, [], ◌∷◌, ◌++◌, All, length, map, Option, Some, None, Ok, refl, sym, ap, subst, ◌∙◌, arith}
+use Rattle.std.specs.List.{zip}
 use Rattle.std.specs.Option.{option_or}
 use Rattle.std.proofs.lemmas.Bool.Decides.{nat_tests}
 use Rattle.std.proofs.lemmas.List.{length-map}
@@ -10,16 +9,15 @@ use Rattle.omos_model.specs.State.{states}
 use Rattle.omos_model.specs.declared.entry.Entry.{Entry}
 use Rattle.omos_model.specs.declared.mark.Landing.{Landing}
 use Rattle.omos_model.specs.declared.mark.MarkRow.{MarkRow}
-use Rattle.omos_model.specs.declared.mark.Target.{Target}
 use Rattle.omos_model.specs.declared.refusal.Refusal.{Refusal}
 use Rattle.link_model.specs.Laws.{BoundsLaw}
-use Rattle.link_model.specs.Layout.{all_pages, page, pieces_of, places_of, slots_begin, slots_of}
-use Rattle.link_model.specs.Module.{IsModule, Module, Placing, found, part_with, parts_of_module, placing_of, plan_of_module, terms_of_module}
+use Rattle.link_model.specs.Layout.{all_pages, pieces_of, places_of, slots_of}
+use Rattle.link_model.specs.Module.{IsModule, Module, Placing, found, part_with, parts_of_module, placing_of, terms_of_module}
 use Rattle.link_model.specs.Plan.{Plan, no_start, plan_refusal, planned, too_large, unless_refused, unresolved}
 use Rattle.link_model.specs.Program.{Parts, landings_of, object_of}
 use Rattle.image_write.specs.declared.groups.Groups.{Groups}
 use Rattle.image_write.specs.ByGroup.{AreNear}
-use Rattle.image_write.specs.Groups.{AreGroups, file_size}
+use Rattle.image_write.specs.Groups.{AreGroups}
 use Rattle.image_write.specs.Pieces.{AreBounded, IsLawful, all_pieces, pieces_in}
 use Rattle.image_write.specs.Plans.{plan_with}
 use Rattle.image_write.specs.Sound.{IsLaid, IsSound}
@@ -70,11 +68,11 @@ sound law x m l ism laid groups near lawful =
     let count = counted m ism in
     let same = pieces-same m.leaves m.landings count in
     let bounds : All (λ leaf. AreBounded (pieces_in leaf)) m.leaves =
-      All-weaker IsLawful (λ leaf. AreBounded (pieces_in leaf)) (λ leaf h. bounded (object_of leaf) h) m.leaves lawful in
+    All-weaker IsLawful (λ leaf. AreBounded (pieces_in leaf)) (λ leaf h. bounded (object_of leaf) h) m.leaves lawful in
     let places : l.places ≡ places_of parts = ap (λ (y : Placing). y.places) placing in
     let slots : l.slots ≡ slots_of parts = ap (λ (y : Placing). y.slots) placing in
     let stand : LeavesStand parts l.places m.leaves =
-      subst (λ (ps : List (List ℕ)). LeavesStand parts ps m.leaves) (sym places) (leaves-stand parts [] m.leaves m.landings count same bounds) in
+    subst (λ (ps : List (List ℕ)). LeavesStand parts ps m.leaves) (sym places) (leaves-stand parts [] m.leaves m.landings count same bounds) in
     let within = slots-inside parts in
     let many : length l.slots ≡ length (slots_of parts) = ap length slots in
     record {

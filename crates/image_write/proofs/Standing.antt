@@ -1,18 +1,16 @@
 -- In a layout each piece stands in its group.
-use Rattle.std.proofs.Common.{◌≡◌, ℕ, suc, ◌+◌, ◌-◌, ◌*◌, ◌/◌, ◌%◌, ◌≤◌, ◌<◌, List, [], ◌∷◌, ◌++◌, All, length, map, fold, Bool, true, false, cond, refl, sym, ap, subst, ◌∙◌, arith, append_assoc}
-use Rattle.std.specs.List.{flat_map, zip}
-use Rattle.std.proofs.lemmas.List.{append-nil}
+use Rattle.std.proofs.Common.{◌≡◌, ℕ, suc, ◌+◌, ◌≤◌, List, [], ◌∷◌, ◌++◌, All, length, map, fold, Bool, true, false, cond, refl, sym, ap, ◌∙◌, arith, append_assoc}
+use Rattle.std.specs.List.{zip}
 use Rattle.std.proofs.lemmas.List.Elements.{All-append, All-cons, All-head, All-nil, All-tail}
 use Rattle.omos_model.specs.declared.entry.Entry.{Entry}
 use Rattle.omos_model.specs.declared.fragment.Group.{Group}
 use Rattle.omos_model.specs.declared.fragment.Group.TheVariants.{Code, Consts, Vars, Zeros}
 use Rattle.omos_model.specs.declared.fragment.Piece.{Piece}
 use Rattle.omos_model.specs.declared.mark.Landing.{Landing}
-use Rattle.link_model.specs.Layout.{aligned, begin_of, end_of, end_with, group_begin, pieces_of, place_of, places_behind, places_from, same_group}
+use Rattle.link_model.specs.Layout.{aligned, begin_of, end_of, end_with, pieces_of, place_of, places_behind, places_from, same_group}
 use Rattle.link_model.specs.Module.{part_with}
 use Rattle.link_model.specs.Program.{Parts}
 use Rattle.image_write.specs.Pieces.{AreBounded, IsBounded, all_pieces, pieces_in}
-use Rattle.image_write.specs.Sections.{Placed}
 use Rattle.image_write.specs.Standing.{LeafStands, LeavesStand, Stands}
 
 aligned-above : (align offset : ℕ) → 1 ≤ align → offset ≤ aligned align offset
@@ -49,7 +47,7 @@ one-stands parts before after p same bounded rest =
     let end = end_of g before in
     let here : end_with g end p ≡ begin_of end p + p.size = ap (λ b. cond b (begin_of end p + p.size) end) (same_group-refl g) in
     let all : end_of g (pieces_of parts) ≡ fold (end_with g) (end_with g end p) after =
-      ap (end_of g) same ∙ fold-append (end_with g) 0 before (p ∷ after) in
+    ap (end_of g) same ∙ fold-append (end_with g) 0 before (p ∷ after) in
     let grown = ends-grow g after (end_with g end p) rest in
     record { from = omega arith; to = omega (arith, here, all, grown) }
 
@@ -59,10 +57,11 @@ leaf-stands : (parts : Parts) (before ps after : List Piece) → pieces_of parts
 leaf-stands parts before [] after same h rest = (refl, All-nil (Stands parts))
 leaf-stands parts before (p ∷ ps) after same h rest =
     let tail = All-tail IsBounded p ps h in
-    let next = leaf-stands parts (before ++ p ∷ []) ps after (same ∙ sym (append_assoc before (p ∷ []) (ps ++ after))) tail rest in
-    (ap suc next.0,
-    All-cons (Stands parts) (place_of parts before p, p) (zip (places_behind parts (before ++ p ∷ []) ps) ps)
-    (one-stands parts before (ps ++ after) p same (All-head IsBounded p ps h) (All-append IsBounded ps after tail rest)) next.1)
+    let next = leaf-stands parts (before ++ p ∷ []) ps after (same ∙ sym (append_assoc before (p ∷ []) (ps ++ after))) tail rest in (
+      ap suc next.0,
+      All-cons (Stands parts) (place_of parts before p, p) (zip (places_behind parts (before ++ p ∷ []) ps) ps)
+          (one-stands parts before (ps ++ after) p same (All-head IsBounded p ps h) (All-append IsBounded ps after tail rest)) next.1,
+    )
 
 all-bounded : (leaves : List Entry) → All (λ leaf. AreBounded (pieces_in leaf)) leaves → All IsBounded (all_pieces leaves)
 all-bounded [] h = All-nil IsBounded
@@ -86,7 +85,7 @@ leaves-stand parts before (leaf ∷ leaves) (l ∷ landings) n same h =
     record {
       count = ap suc next.count;
       each =
-        All-cons (LeafStands parts) (places_behind parts before (pieces_in leaf), leaf)
-        (zip (places_from parts (before ++ pieces_in leaf) (map part_with (zip leaves landings))) leaves)
-        (record { count = here.0; each = here.1 }) next.each;
+          All-cons (LeafStands parts) (places_behind parts before (pieces_in leaf), leaf)
+          (zip (places_from parts (before ++ pieces_in leaf) (map part_with (zip leaves landings))) leaves)
+          (record { count = here.0; each = here.1 }) next.each;
     }

@@ -1,5 +1,5 @@
 -- The pieces of leaves.
-use Rattle.std.specs.Prelude.{ℕ, ◌≤◌, List, All, length}
+use Rattle.std.specs.Prelude.{◌≤◌, List, All, length}
 use Rattle.std.specs.List.{flat_map}
 use Rattle.omos_model.specs.FragmentParts.{IsFragment, max_pieces, max_size}
 use Rattle.omos_model.specs.declared.entry.Entry.{Entry}

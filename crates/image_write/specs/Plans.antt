@@ -1,5 +1,4 @@
 -- The plan that a module and its layout make.
-use Rattle.std.specs.Prelude.{ℕ}
 use Rattle.link_model.specs.Plan.{Plan, entry_of}
 use Rattle.link_model.specs.Module.{Module, Placing, found, parts_of_module}
 

@@ -1,5 +1,5 @@
 -- What holds of a module, its layout and its groups, from which all bounds follow.
-use Rattle.std.specs.Prelude.{◌≡◌, ℕ, ◌+◌, ◌*◌, ◌^◌, ◌≤◌, All, length, Ok}
+use Rattle.std.specs.Prelude.{◌≡◌, ◌+◌, ◌*◌, ◌^◌, ◌≤◌, All, length, Ok}
 use Rattle.link_model.specs.Layout.{pieces_of, slots_begin}
 use Rattle.link_model.specs.Module.{Module, Placing, parts_of_module, placing_of, plan_of_module}
 use Rattle.link_model.specs.Plan.{Plan}

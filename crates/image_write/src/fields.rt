@@ -103,7 +103,14 @@ fn patch_leaf(
         (references_of leaf fixups.now landings.now) result body.new body.old }
 {
     for number in 0..fixups.len().min(landings.len()) {
-        patch(body, ground, leaf, number as u32, &fixups[number], &landings[number])?;
+        patch(
+            body,
+            ground,
+            leaf,
+            number as u32,
+            &fixups[number],
+            &landings[number],
+        )?;
     }
     Ok(())
 }

@@ -94,7 +94,14 @@ pub fn write(
     let head = page.len();
     page.push_zeros(groups.begins.zeros as usize)?;
     let mut bytes = page.into_vec();
-    match fill_behind(&mut bytes, head, &ground, groups.slots as usize, evaluated, layout) {
+    match fill_behind(
+        &mut bytes,
+        head,
+        &ground,
+        groups.slots as usize,
+        evaluated,
+        layout,
+    ) {
         Ok(()) => Ok(Bytes::from_vec(bytes)),
         Err(refusal) => Err(Fault::Refused(refusal)),
     }

@@ -5,16 +5,16 @@
 #![tactic(auto)]
 
 mod addresses;
+mod body;
 mod by_group;
+mod fields;
+mod file;
 mod groups;
+mod headers;
 mod offsets;
 mod pieces;
-mod slot;
-mod headers;
 mod sections;
+mod slot;
 mod slots;
-mod fields;
-mod body;
-mod file;
 
 pub use file::write;

@@ -1,7 +1,6 @@
-use Rattle.std.proofs.Common.{◌∷◌, [], take, arith, subst, sym}
+use Rattle.std.proofs.Common.{arith, subst, sym}
 use Rattle.std.proofs.lemmas.Result.{err_from_is_err_and}
-use Rattle.link_model.specs.Program.{reference_of}
-use Rattle.image_write.specs.Fields.{IsPatched, overflow_in, references_of}
+use Rattle.image_write.specs.Fields.{IsPatched, overflow_in}
 use Rattle.image_write.proofs.Patched.{leaf-all, leaf-more, patched-append, refused-in}
 use Rattle.image_write.proofs.fields.patch_leaf.Goals as goal
 

@@ -11,8 +11,8 @@ loop-leaf-preserved c =
     record {
       ends = λ g. grind (arith, common_steps, c.loop-leaf.invariant.ends g, c.lay_pieces.ensures.ends g);
       lawful =
-        All-more IsLawful c.args.leaves.now c.loop-leaf.leaf-index c.leaf-item.result (omega arith) c.loop-leaf.invariant.lawful
-        (subst IsLawful c.leaf-item.is c.pieces_in.ensures.lawful);
+          All-more IsLawful c.args.leaves.now c.loop-leaf.leaf-index c.leaf-item.result (omega arith) c.loop-leaf.invariant.lawful
+          (subst IsLawful c.leaf-item.is c.pieces_in.ensures.lawful);
       near = λ g. omega (arith, c.loop-leaf.invariant.near g, c.lay_pieces.ensures.near g);
     }
 

@@ -15,5 +15,5 @@ loop-at-preserved c =
     record {
       within = omega arith;
       painted =
-        leaf-goes c.args.places.now c.args.pieces.now _ c.loop-at.at _ _ _ _ _ c.requires.count (omega arith) (search rules) c.index-pieces-at.is (omega arith) c.copy_piece.ensures c.loop-at.invariant.painted;
+          leaf-goes c.args.places.now c.args.pieces.now _ c.loop-at.at _ _ _ _ _ c.requires.count (omega arith) (search rules) c.index-pieces-at.is (omega arith) c.copy_piece.ensures c.loop-at.invariant.painted;
     }

@@ -1,8 +1,4 @@
-use Rattle.std.proofs.Common.{◌≡◌, length, subst, sym, ap, ◌∙◌, arith, rules}
-use Rattle.std.specs.List.{zip}
-use Rattle.std.specs.Prelude.{All}
-use Rattle.image_write.specs.Pieces.{pieces_in}
-use Rattle.image_write.specs.Sections.{IsInside, IsLeafInside}
+use Rattle.std.proofs.Common.{length, sym, ap, ◌∙◌, arith}
 use Rattle.image_write.proofs.Sectioned.{leaf-each, leaf-inside, leaves-go}
 use Rattle.image_write.proofs.sections.copy_sections.Goals as goal
 
@@ -22,5 +18,5 @@ loop-at-preserved c =
     record {
       within = omega arith;
       painted =
-        leaves-go c.args.places.now c.args.leaves.now _ c.loop-at.at _ _ _ _ _ _ _ c.requires.count (omega arith) c.index-places-at.is c.index-leaves-at.is h.count c.as_slice.ensures c.pieces_in.ensures.pieces (omega arith) c.copy_leaf.ensures c.loop-at.invariant.painted;
+          leaves-go c.args.places.now c.args.leaves.now _ c.loop-at.at _ _ _ _ _ _ _ c.requires.count (omega arith) c.index-places-at.is c.index-leaves-at.is h.count c.as_slice.ensures c.pieces_in.ensures.pieces (omega arith) c.copy_leaf.ensures c.loop-at.invariant.painted;
     }
