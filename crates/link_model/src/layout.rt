@@ -51,6 +51,13 @@ impl Layout {
         self.places.as_slice()[leaf as usize].as_slice()[piece as usize]
     }
 
+    /// Where the pieces stand: for each leaf, the place of each of its pieces, in order.
+    pub fn places(&self) -> &[Row<u64>]
+        ensures { result.now ≡ self.now.places }
+    {
+        self.places.as_slice()
+    }
+
     /// The targets of the slots, in their order.
     pub fn slots(&self) -> &[Target]
         ensures { result.now ≡ self.now.slots }

@@ -1,0 +1,13 @@
+pub mod Ends
+pub mod Loads
+pub mod HeaderPages
+pub mod Painting
+pub mod Sectioned
+pub mod Slotted
+pub mod Patched
+pub mod Standing
+pub mod Lawful
+pub mod Inside
+pub mod Bytes
+pub mod Soundness
+pub mod Files

@@ -1,0 +1,93 @@
+-- A laid out module is sound.
+use Rattle.std.proofs.Common.{◌≡◌, ℕ, ◌^◌, ◌≤◌, List, [], ◌∷◌, ◌++◌, All, length, map, Option, Some, None, Ok, refl, sym, ap, subst, ◌∙◌, arith}
+use Rattle.std.specs.List.{zip}
+use Rattle.std.specs.Option.{option_or}
+use Rattle.std.proofs.lemmas.Bool.Decides.{nat_tests}
+use Rattle.std.proofs.lemmas.List.{length-map}
+use Rattle.std.proofs.lemmas.List.Elements.{All-weaker}
+use Rattle.omos_model.specs.State.{states}
+use Rattle.omos_model.specs.declared.entry.Entry.{Entry}
+use Rattle.omos_model.specs.declared.mark.Landing.{Landing}
+use Rattle.omos_model.specs.declared.mark.MarkRow.{MarkRow}
+use Rattle.omos_model.specs.declared.refusal.Refusal.{Refusal}
+use Rattle.link_model.specs.Laws.{BoundsLaw}
+use Rattle.link_model.specs.Layout.{all_pages, pieces_of, places_of, slots_of}
+use Rattle.link_model.specs.Module.{IsModule, Module, Placing, found, part_with, parts_of_module, placing_of, terms_of_module}
+use Rattle.link_model.specs.Plan.{Plan, no_start, plan_refusal, planned, too_large, unless_refused, unresolved}
+use Rattle.link_model.specs.Program.{Parts, landings_of, object_of}
+use Rattle.image_write.specs.declared.groups.Groups.{Groups}
+use Rattle.image_write.specs.ByGroup.{AreNear}
+use Rattle.image_write.specs.Groups.{AreGroups}
+use Rattle.image_write.specs.Pieces.{AreBounded, IsLawful, all_pieces, pieces_in}
+use Rattle.image_write.specs.Plans.{plan_with}
+use Rattle.image_write.specs.Sound.{IsLaid, IsSound}
+use Rattle.image_write.specs.Standing.{LeavesStand}
+use Rattle.image_write.proofs.Inside.{all-inside, all-low, fields-inside, slots-inside}
+use Rattle.image_write.proofs.Lawful.{bounded}
+use Rattle.image_write.proofs.Standing.{leaves-stand}
+
+-- ---- the plan
+
+unrefused : (r : Option Refusal) (p q : Plan) → unless_refused r p ≡ Ok q → (r ≡ None) × (p ≡ q)
+unrefused None p q h = (refl, cc)
+unrefused (Some x) p q h = absurd (cc)
+
+first_none : (a b : Option Refusal) → option_or a b ≡ None → a ≡ None
+first_none None b h = refl
+first_none (Some x) b h = h
+
+few_pages : (parts : Parts) → too_large parts ≡ None → all_pages parts ≤ 2047
+few_pages parts h = grind (arith, nat_tests)
+
+-- ---- the module
+
+pub counted : (m : Module) → IsModule m → length m.landings ≡ length m.leaves
+counted m h =
+    let t = h.0 in
+    ap length h.2.landings ∙ length-map (states t) (landings_of t)
+    ∙ sym (ap length h.2.leaves ∙ length-map (states t) (λ (r : MarkRow). r.entry))
+
+pieces-same : (leaves : List Entry) (landings : List (List Landing)) → length landings ≡ length leaves
+    → pieces_of (map part_with (zip leaves landings)) ≡ all_pieces leaves
+pieces-same [] [] h = refl
+pieces-same [] (l ∷ landings) h = refl
+pieces-same (e ∷ leaves) [] h = absurd (omega arith)
+pieces-same (e ∷ leaves) (l ∷ landings) h = ap (λ ps. pieces_in e ++ ps) (pieces-same leaves landings (omega arith))
+
+-- ---- both
+
+pub sound : (law : BoundsLaw) (x : Groups) (m : Module) (l : Placing) → IsModule m → IsLaid m l
+    → ((parts : Parts) → pieces_of parts ≡ all_pieces m.leaves → length (slots_of parts) ≡ length l.slots → AreGroups x parts)
+    → AreNear (2 ^ 52) x.begins → All IsLawful m.leaves → IsSound x m l
+sound law x m l ism laid groups near lawful =
+    let parts = parts_of_module m in
+    let made = planned parts (found m.names) (terms_of_module m) in
+    let split = unrefused (plan_refusal parts (found m.names) m.start) made laid.0 laid.1 in
+    let placing : l ≡ placing_of made = laid.2 ∙ ap placing_of (sym split.1) in
+    let pages = few_pages parts (first_none (too_large parts) (option_or (no_start (found m.names) m.start) (unresolved parts)) split.0) in
+    let count = counted m ism in
+    let same = pieces-same m.leaves m.landings count in
+    let bounds : All (λ leaf. AreBounded (pieces_in leaf)) m.leaves =
+    All-weaker IsLawful (λ leaf. AreBounded (pieces_in leaf)) (λ leaf h. bounded (object_of leaf) h) m.leaves lawful in
+    let places : l.places ≡ places_of parts = ap (λ (y : Placing). y.places) placing in
+    let slots : l.slots ≡ slots_of parts = ap (λ (y : Placing). y.slots) placing in
+    let stand : LeavesStand parts l.places m.leaves =
+    subst (λ (ps : List (List ℕ)). LeavesStand parts ps m.leaves) (sym places) (leaves-stand parts [] m.leaves m.landings count same bounds) in
+    let within = slots-inside parts in
+    let many : length l.slots ≡ length (slots_of parts) = ap length slots in
+    record {
+      plan = laid.1 ∙ ap Ok (sym split.1 ∙ sym (ap (plan_with m) placing));
+      groups = groups parts same (sym many);
+      near = near;
+      small = omega arith;
+      leaves = (law m ism).leaves;
+      count = count;
+      few = omega arith;
+      lawful = lawful;
+      same = same;
+      stand = stand;
+      low = all-low parts l.places m.leaves stand pages;
+      pieces = all-inside parts l.places m.leaves stand lawful;
+      slots = omega arith;
+      fields = fields-inside parts l.places m.leaves stand lawful;
+    }

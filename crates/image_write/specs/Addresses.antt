@@ -1,0 +1,42 @@
+-- Addresses from the places of pieces and the table of slots.
+use Rattle.std.specs.Prelude.{◌≡◌, ℕ, ◌+◌, ◌-◌, ◌*◌, ◌/◌, ◌%◌, ◌^◌, ◌≤◌, List, [], Option, None, slice_get}
+use Rattle.std.specs.Prelude.{slice_index, unwrap_or, if◌then◌else◌}
+use Rattle.std.specs.Map.{lookup}
+use Rattle.std.specs.Option.{option_map}
+use Rattle.omos_base.specs.Endian.{little_bytes}
+use Rattle.omos_model.specs.declared.mark.Target.{Target}
+use Rattle.omos_model.specs.declared.mark.Target.TheVariants.{Inside, Fixed}
+use Rattle.link_model.specs.ImageBytes.{covers}
+use Rattle.link_model.specs.Layout.{same_target, slot_number}
+use Rattle.image_write.specs.declared.slots.SlotTable.{SlotTable}
+
+-- where a piece of a leaf stands, counted from the base
+abbrev pub place_in : List (List ℕ) → ℕ → ℕ → ℕ
+place_in places leaf piece = unwrap_or (slice_get (unwrap_or (slice_get places leaf) []) piece) 0
+
+-- no piece stands higher
+abbrev pub max_place : ℕ
+max_place = 2 ^ 47
+
+pub record AreLow (places : List (List ℕ)) : Type 0 where
+  pub low : (leaf piece : ℕ) → place_in places leaf piece ≤ max_place
+
+abbrev pub address_in : List (List ℕ) → ℕ → Target → ℕ
+address_in places base (Inside leaf piece offset) = base + place_in places leaf piece + offset
+address_in places base (Fixed value) = value
+
+-- the address of a target's slot
+abbrev pub slot_in : SlotTable → Target → ℕ
+slot_in table target = unwrap_or (lookup (same_target target) table.addresses.entries) table.behind
+
+-- the table of these slots, the first of which has this address
+pub record IsTable (table : SlotTable) (slots : List Target) (first : ℕ) : Type 0 where
+  pub each : (t : Target) → slot_in table t ≡ first + 8 * slot_number slots t
+
+-- of the first `count` of slots that begin there, each of which holds its target's address
+abbrev pub slots_byte : List (List ℕ) → ℕ → List Target → ℕ → ℕ → ℕ → Option ℕ
+slots_byte places base slots begin count x =
+    if covers begin (8 * count) x
+    then option_map (λ target. slice_index (little_bytes 8 (address_in places base target)) ((x - begin) % 8))
+    (slice_get slots ((x - begin) / 8))
+    else None

@@ -1,0 +1,15 @@
+pub mod ByGroup
+pub mod Pieces
+pub mod Slots
+pub mod Targets
+pub mod Groups
+pub mod Plans
+pub mod Headers
+pub mod Painted
+pub mod Sections
+pub mod Addresses
+pub mod Fields
+pub mod Standing
+pub mod Filled
+pub mod Sound
+pub mod Written

@@ -1,0 +1,36 @@
+//! Addresses, from the base and the places of the pieces.
+
+ghost use Rattle.std.specs.Prelude.{◌≡◌, ◌≤◌};
+ghost use Rattle.image_write.specs.Addresses.{AreLow, address_in, max_place, place_in};
+
+use omos_base::Row;
+use omos_model::Target;
+
+/// Where a piece of a leaf stands, counted from the base; a piece that isn't there stands at 0.
+pub fn place_in(places: &[Row<u64>], leaf: u32, piece: u32) -> u64
+    ensures { result ≡ place_in places.now leaf piece }
+{
+    let Some(row) = places.get(leaf as usize) else {
+        return 0;
+    };
+    match row.as_slice().get(piece as usize) {
+        Some(place) => *place,
+        None => 0,
+    }
+}
+
+/// The address of a target.
+pub fn address_in(places: &[Row<u64>], base: u64, target: Target) -> u64
+    requires low { AreLow places.now }
+    requires base { base ≤ max_place }
+    ensures { result ≡ address_in places.now base target }
+{
+    match target {
+        Target::Inside {
+            leaf,
+            piece,
+            offset,
+        } => base + place_in(places, leaf, piece) + u64::from(offset),
+        Target::Fixed { value } => value,
+    }
+}

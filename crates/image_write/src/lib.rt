@@ -1,0 +1,20 @@
+//! The bytes of an image: a page with the headers, the pieces of the leaves, the slots and the
+//! fields, as a static executable (System V gABI, chapters 4 and 5).
+//!
+//! Nothing here lays out or chooses a base.
+#![tactic(auto)]
+
+mod addresses;
+mod body;
+mod by_group;
+mod fields;
+mod file;
+mod groups;
+mod headers;
+mod offsets;
+mod pieces;
+mod sections;
+mod slot;
+mod slots;
+
+pub use file::write;
