@@ -12,7 +12,7 @@ use Rattle.omos_model.specs.declared.refusal.Refusal.{Refusal}
 use Rattle.elf_words.specs.Ehdr.{ehdr_bytes}
 use Rattle.link_model.specs.Answer.{answer, answer_of_plan}
 use Rattle.link_model.specs.ImageBytes.{image_bytes, overflow, file_bytes, unless_overflow}
-use Rattle.image_write.specs.IsWritten.{IsWritten}
+use Rattle.image_write.specs.Written.{Writes}
 use Rattle.link_layout.specs.IsLaid.{IsLaid}
 use Rattle.link_model.specs.Module.{Module, alone, plan_of_module}
 use Rattle.link_model.specs.Plan.{Plan, plan_of}
@@ -54,7 +54,7 @@ planned : (m : Module) (base : ℕ) (plan : Plan) → plan_of m.footprint m.path
 planned m base plan law e = ap (λ p. answer_of_plan p base) (law ∙ e)
 
 pub answered_alike : (m : Module) (result : Result (List ℕ) (Fault Refusal))
-    → plan_of m.footprint m.path ≡ plan_of_module m → IsWritten result m lone_base
+    → plan_of m.footprint m.path ≡ plan_of_module m → Writes m lone_base result
     → MatchFault result (λ image. answer m.footprint m.path lone_base ≡ Ok image)
     (λ x. answer m.footprint m.path lone_base ≡ Err x)
 answered_alike m (Ok image) law h = planned m lone_base h.0 law h.1 ∙ h.2
