@@ -20,14 +20,17 @@ pub numbers_push : (s c : ℕ) → numbers_from s (suc c) ≡ numbers_from s c +
 numbers_push s zero = ap (λ (n : ℕ). n ∷ []) (omega arith)
 numbers_push s (suc c) =
     let same : s + 1 + c ≡ s + suc c = omega arith in
-    ap (λ ns. s ∷ ns) (numbers_push (s + 1) c ∙ ap (λ (n : ℕ). numbers_from (s + 1) c ++ n ∷ []) same)
+    ap (λ ns. s ∷ ns)
+    (numbers_push (s + 1) c ∙ ap (λ (n : ℕ). numbers_from (s + 1) c ++ n ∷ []) same)
 
--- the numbers from 1 to below one more
-pub one_more : (k : ℕ) → 1 ≤ k → numbers_from 1 (k + 1 - 1) ≡ numbers_from 1 (k - 1) ++ k ∷ []
+-- the numbers from 1 to one
+pub one_more : (k : ℕ) → 1 ≤ k → numbers_from 1 k ≡ numbers_from 1 (k - 1) ++ k ∷ []
 one_more k h =
-    let next : k + 1 - 1 ≡ suc (k - 1) = omega (arith, h) in
+    let next : k ≡ suc (k - 1) = omega (arith, h) in
     let last : 1 + (k - 1) ≡ k = omega (arith, h) in
-    ap (numbers_from 1) next ∙ numbers_push 1 (k - 1) ∙ ap (λ (n : ℕ). numbers_from 1 (k - 1) ++ n ∷ []) last
+    ap (numbers_from 1) next
+    ∙ numbers_push 1 (k - 1)
+    ∙ ap (λ (n : ℕ). numbers_from 1 (k - 1) ++ n ∷ []) last
 
 or_false : (b : Bool) → (b || false) ≡ b
 or_false true = refl
@@ -38,7 +41,9 @@ below_more : (file : List ℕ) (k : ℕ) (n : Name) → 1 ≤ k
     ≡ (is_defined_below file k n || (is_export file k && same_name n (name_of file k)))
 below_more file k n h =
     let p = λ (j : ℕ). is_export file j && same_name n (name_of file j) in
-    ap (list_any p) (one_more k h) ∙ list_any-append p (numbers_from 1 (k - 1)) (k ∷ [])
+    let same : k + 1 - 1 ≡ k = omega arith in
+    ap (λ m. list_any p (numbers_from 1 m)) same
+    ∙ ap (list_any p) (one_more k h) ∙ list_any-append p (numbers_from 1 (k - 1)) (k ∷ [])
     ∙ ap (λ b. is_defined_below file k n || b) (or_false (p k))
 
 or_cond : (b c : Bool) → cond b true c ≡ (c || b)

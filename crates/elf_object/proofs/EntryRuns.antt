@@ -38,8 +38,10 @@ pub is_wrong_at : (file : List ℕ) (i j : ℕ) (h t : Shdr) (r : Rela) (b : Boo
 is_wrong_at file i j h t r b eh et er e =
     e
     ∙ ap (λ (x : Rela). is_wrong file t.sh_size x.r_offset x.r_info) er
-    ∙ ap (λ (x : Shdr). is_wrong file x.sh_size (number_at 8 (h.sh_offset + 24 * j) file) (number_at 8 (h.sh_offset + 24 * j + 8) file)) et
-    ∙ ap (λ (x : Shdr). is_wrong file (sh_size file x.sh_info) (number_at 8 (x.sh_offset + 24 * j) file) (number_at 8 (x.sh_offset + 24 * j + 8) file)) eh
+    ∙ ap (λ (x : Shdr). is_wrong file x.sh_size (number_at 8 (h.sh_offset + 24 * j) file)
+    (number_at 8 (h.sh_offset + 24 * j + 8) file)) et
+    ∙ ap (λ (x : Shdr). is_wrong file (sh_size file x.sh_info)
+    (number_at 8 (x.sh_offset + 24 * j) file) (number_at 8 (x.sh_offset + 24 * j + 8) file)) eh
 
 find_map : {X Y : Type 0} (p : Y → Bool) (f : X → Y) (xs : List X)
     → find p (map f xs) ≡ option_map f (find (λ x. p (f x)) xs)
@@ -62,21 +64,27 @@ pub find_used : (file : List ℕ) (i : ℕ) (o : Option ℕ) → i < e_shnum fil
     → is_used_rela file i ≡ true
     → o ≡ find (λ j. is_wrong_entry file (i, j)) (numbers_from 0 (entry_count file i))
     → find (is_wrong_entry file) (entries_from file i)
-    ≡ option_or (option_map (λ (j : ℕ). (i, j)) o) (find (is_wrong_entry file) (entries_from file (i + 1)))
+    ≡ option_or (option_map (λ (j : ℕ). (i, j)) o)
+    (find (is_wrong_entry file) (entries_from file (i + 1)))
 find_used file i o there used e =
-    ap (λ is. find (is_wrong_entry file) (pairs (entry_count file) is)) (filter_here (is_used_rela file) i (e_shnum file) there used)
-    ∙ find-append (is_wrong_entry file) (map (λ (j : ℕ). (i, j)) (numbers_from 0 (entry_count file i))) (entries_from file (i + 1))
+    ap (λ is. find (is_wrong_entry file) (pairs (entry_count file) is))
+    (filter_here (is_used_rela file) i (e_shnum file) there used)
+    ∙ find-append (is_wrong_entry file) (map (λ (j : ℕ). (i, j))
+    (numbers_from 0 (entry_count file i))) (entries_from file (i + 1))
     ∙ ap (λ o. option_or o (find (is_wrong_entry file) (entries_from file (i + 1))))
-    (find_map (is_wrong_entry file) (λ (j : ℕ). (i, j)) (numbers_from 0 (entry_count file i)) ∙ ap (option_map (λ (j : ℕ). (i, j))) (sym e))
+    (find_map (is_wrong_entry file) (λ (j : ℕ). (i, j)) (numbers_from 0 (entry_count file i)) ∙ ap
+    (option_map (λ (j : ℕ). (i, j))) (sym e))
 
 -- any other section has none
 pub find_unused : (file : List ℕ) (i : ℕ) → i < e_shnum file → is_used_rela file i ≡ false
     → find (is_wrong_entry file) (entries_from file i)
     ≡ find (is_wrong_entry file) (entries_from file (i + 1))
 find_unused file i there used =
-    ap (λ is. find (is_wrong_entry file) (pairs (entry_count file) is)) (filter_next (is_used_rela file) i (e_shnum file) there used)
+    ap (λ is. find (is_wrong_entry file) (pairs (entry_count file) is))
+    (filter_next (is_used_rela file) i (e_shnum file) there used)
 
 pub readable_at : (file : List ℕ) (i : ℕ) → find (is_wrong_rela file) (sections file) ≡ None
     → 1 ≤ i → i < e_shnum file → is_used_rela file i ≡ true → IsReadable file i
 readable_at file i relas low there used =
-    readable file i there (find_none (is_wrong_rela file) 1 (e_shnum file - 1) relas i (record { low = low; high = omega (arith, there) })) used
+    readable file i there (find_none (is_wrong_rela file) 1 (e_shnum file - 1) relas i
+    (record { low = low; high = omega (arith, there) })) used

@@ -24,7 +24,8 @@ again_is file k right found =
     let has = (and_parts (has_name file k) _ (and_parts (is_export file k) _ at.1).0).0 in
     record {
       there = omega (arith, at.0.low, at.0.high);
-      named = (name_law (name_of file k)).0 (lawful_name file k (find_none (is_wrong_symbol file) 1 _ right k at.0) has);
+      named = (name_law (name_of file k)).0
+          (lawful_name file k (find_none (is_wrong_symbol file) 1 _ right k at.0) has);
     }
 
 pub no_fault : (bytes : List ℕ) (x : NameFault) → IsSymName bytes → HasNameFault bytes x → ⊥

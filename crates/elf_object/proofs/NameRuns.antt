@@ -86,9 +86,12 @@ pub name_in_front : (xs : List ℕ)
 name_in_front xs = go (ended xs) refl
   where
     go : (r : Bool) → ended xs ≡ r
-        → (ended xs && nat_le 1 (prefix_len is_name_byte xs) && nat_le (prefix_len is_name_byte xs) 1024)
+        → (ended xs && nat_le 1 (prefix_len is_name_byte xs)
+        && nat_le (prefix_len is_name_byte xs) 1024)
         ≡ (list_any is_zero xs && is_symbol_name (take_while is_some_byte xs))
     go true e =
         let both = and_parts (list_any is_zero xs) _ (both_ended xs ∙ e) in
         rw (e, both.0, both.1, same_length xs e) (and_true _)
-    go false e = rw e (and_between (list_any is_zero xs) _ (list_all is_name_byte (take_while is_some_byte xs)) (both_ended xs ∙ e))
+    go false e =
+        let all = list_all is_name_byte (take_while is_some_byte xs) in
+        rw e (and_between (list_any is_zero xs) _ all (both_ended xs ∙ e))

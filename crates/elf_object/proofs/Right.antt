@@ -40,8 +40,10 @@ pub kept_inside : (file : List ℕ) (i : ℕ) → object_fault file ≡ None →
     → is_nobits file i ≡ false → lies_in_file file i ≡ true
 kept_inside file i right kept bits =
     let section = (and_parts _ _ (and_parts _ _ kept).0).0 in
-    let fine = rest_false (is_kept file i) _ ((right_file file right).sections i (numbered file i section)) kept in
-    not-false _ (rest_false (not (is_nobits file i)) (not (lies_in_file file i)) (or_parts _ _ fine).1 (not_from_false _ bits))
+    let fine = rest_false (is_kept file i) _
+    ((right_file file right).sections i (numbered file i section)) kept in
+    not-false _ (rest_false (not (is_nobits file i)) (not (lies_in_file file i))
+    (or_parts _ _ fine).1 (not_from_false _ bits))
 
 -- ---- relocations
 
@@ -51,7 +53,8 @@ pub readable : (file : List ℕ) (i : ℕ) → i < e_shnum file → is_wrong_rel
 readable file i there right used =
     let parts = and_parts (sh_type file i == rela) _ used in
     let fine = rest_false (sh_type file i == rela) _ right parts.0 in
-    let all = not-false _ (rest_false (is_used_rela file i) (not (is_right_rela file i)) (or_parts _ _ fine).1 used) in
+    let all = not-false _ (rest_false (is_used_rela file i) (not (is_right_rela file i))
+    (or_parts _ _ fine).1 used) in
     let a = and_parts _ _ (and_parts _ _ (and_parts _ _ all).0).0 in
     record {
       there = there;
@@ -62,7 +65,8 @@ readable file i there right used =
 pub used_inside : (file : List ℕ) (i : ℕ) → object_fault file ≡ None → is_section file i ≡ true
     → is_used_rela file i ≡ true → IsReadable file i
 used_inside file i right section used =
-    readable file i (section_there file i section) ((right_file file right).relas i (numbered file i section)) used
+    readable file i (section_there file i section)
+    ((right_file file right).relas i (numbered file i section)) used
 
 -- ---- symbols
 
@@ -71,7 +75,8 @@ pub lawful_name : (file : List ℕ) (k : ℕ) → is_wrong_symbol file k ≡ fal
     → has_name file k ≡ true → is_symbol_name (name_of file k) ≡ true
 lawful_name file k right has =
     let all = not-false _ right in
-    (and_parts _ _ (rest_true (not (has_name file k)) _ (and_parts _ _ all).1 (not_from_true _ has))).1
+    (and_parts _ _ (rest_true (not (has_name file k)) _ (and_parts _ _ all).1
+    (not_from_true _ has))).1
 
 pub named : (file : List ℕ) (k : ℕ) → object_fault file ≡ None → 1 ≤ k → k < symbol_count file
     → has_name file k ≡ true → is_symbol_name (name_of file k) ≡ true

@@ -55,7 +55,8 @@ pub none_found : (p : ℕ → Bool) (xs : List ℕ) (o now : Option ℕ) (i n : 
     → now ≡ o
     → xs ≡ option_to_list o ++ filter p (numbers_from i (n - i))
     → xs ≡ option_to_list now ++ filter p (numbers_from (i + 1) (n - (i + 1)))
-none_found p xs o now i n h miss is e = e ∙ rw is (ap (λ ys. option_to_list o ++ ys) (filter_next p i n h miss))
+none_found p xs o now i n h miss is e =
+    e ∙ rw is (ap (λ ys. option_to_list o ++ ys) (filter_next p i n h miss))
 
 -- ---- what was found
 

@@ -1,6 +1,6 @@
 -- The entries of the used relocation sections, section by section.
-use Rattle.std.proofs.Common.{◌≡◌, ℕ, suc, ◌+◌, ◌-◌, ◌<◌, ◌≤◌, ◌==◌, Bool, true, false, not, ◌&&◌, ◌||◌}
-use Rattle.std.proofs.Common.{List, [], ◌∷◌, ◌++◌, refl, sym, ap, ◌∙◌, cond, arith}
+use Rattle.std.proofs.Common.{◌≡◌, ℕ, ◌+◌, ◌-◌, ◌<◌, ◌≤◌, ◌==◌, Bool, true, false, not, ◌&&◌, ◌||◌}
+use Rattle.std.proofs.Common.{List, [], ◌∷◌, ◌++◌, refl, sym, ap, ◌∙◌, cond}
 use Rattle.std.specs.Prelude.{filter}
 use Rattle.std.specs.List.{sum_by}
 use Rattle.std.proofs.lemmas.Bool.{and_left, and_parts, and_right, eq-eqb, leb-true, lt-ltb}
@@ -13,7 +13,7 @@ use Rattle.elf_words.specs.declared.shdr.Shdr.{Shdr}
 use Rattle.omos_model.specs.ElfFaults.{entries_up_to, entry_count, is_kept, is_right_rela}
 use Rattle.omos_model.specs.ElfFaults.{is_used_rela, is_wrong_rela, rela}
 use Rattle.omos_model.specs.FragmentParts.{max_entries}
-use Rattle.elf_object.proofs.DefinedBelow.{numbers_push}
+use Rattle.elf_object.proofs.DefinedBelow.{one_more}
 use Rattle.elf_object.proofs.Right.{kept_there}
 
 filter_push : (q : ℕ → Bool) (xs : List ℕ) (n : ℕ)
@@ -32,10 +32,8 @@ up_to : (file : List ℕ) (i : ℕ) → 1 ≤ i
     ≡ sum_by (entry_count file)
     (filter (is_used_rela file) (numbers_from 1 (i - 1)) ++ cond (is_used_rela file i) (i ∷ []) [])
 up_to file i h =
-    let next : i ≡ suc (i - 1) = omega (arith, h) in
-    let last : 1 + (i - 1) ≡ i = omega (arith, h) in
     ap (λ ns. sum_by (entry_count file) (filter (is_used_rela file) ns))
-    (ap (numbers_from 1) next ∙ numbers_push 1 (i - 1) ∙ ap (λ (n : ℕ). numbers_from 1 (i - 1) ++ n ∷ []) last)
+    (one_more i h)
     ∙ ap (sum_by (entry_count file)) (filter_push (is_used_rela file) (numbers_from 1 (i - 1)) i)
 
 -- a used section adds its entries

@@ -18,7 +18,8 @@ pub record IsTheTable (file : List ℕ) (table : ℕ) : Type 0 where
 pub the_table : (file : List ℕ) (table : ℕ) → symtabs file ≡ table ∷ [] → IsTheTable file table
 the_table file table e =
     let all = all_filtered (is_symtab file) (is_symtab file) 1 _ (λ _ _ h. h) in
-    let symtab = (and_parts (is_symtab file table) true (sym (ap (list_all (is_symtab file)) e) ∙ all)).0 in
+    let symtab = (and_parts (is_symtab file table) true
+    (sym (ap (list_all (is_symtab file)) e) ∙ all)).0 in
     let both = and_parts (nat_lt 0 table) _ (and_parts (is_section file table) _ symtab).0 in
     record {
       counted = ltb-true 0 table both.0;
@@ -27,7 +28,8 @@ the_table file table e =
     }
 
 nonzero : (n : ℕ) → 0 < n → (n == 0) ≡ false
-nonzero n h = false_from_ne_true _ (λ e. let z : n ≡ 0 = eqb-true n 0 e in absurd (omega (arith, h, z)))
+nonzero n h =
+    false_from_ne_true _ (λ e. let z : n ≡ 0 = eqb-true n 0 e in absurd (omega (arith, h, z)))
 
 -- whole entries end where their section ends, or before
 pub entries_end : (offset size end : ℕ) → offset + size ≤ end → offset + 24 * (size / 24) ≤ end
@@ -35,13 +37,16 @@ entries_end offset size end h = omega (arith, h)
 
 pub symbols_of_table : (file : List ℕ) (table : ℕ) → symtabs file ≡ table ∷ []
     → is_right_symtab file table ≡ true
-    → AreSymbols file (sh_size file table / 24) (sh_offset file table) (section_bytes file (sh_link file table))
+    → AreSymbols file (sh_size file table / 24) (sh_offset file table)
+    (section_bytes file (sh_link file table))
 symbols_of_table file table e right =
     let the = the_table file table e in
     let a = and_parts _ _ (and_parts _ _ right).0 in
-    let inside : sh_offset file table + sh_size file table ≤ length file = leb-true _ (length file) a.1 in
+    let inside : sh_offset file table + sh_size file table ≤ length file =
+    leb-true _ (length file) a.1 in
     record {
-      counted = rw the.first (sym (cond-false (table == 0) 0 (sh_size file table / 24) (nonzero table the.counted)));
+      counted = rw the.first (sym (cond-false (table == 0) 0 (sh_size file table / 24)
+          (nonzero table the.counted)));
       begins = λ _. ap (sh_offset file) (sym the.first);
       inside = entries_end (sh_offset file table) (sh_size file table) (length file) inside;
       named = λ _. ap (λ t. section_bytes file (sh_link file t)) (sym the.first);

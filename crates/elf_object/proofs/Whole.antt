@@ -33,16 +33,20 @@ sized : (file : List ℕ) → IsSized file → has_length file ≡ true
 sized file h = and_from _ _ (le-leb 64 (length file) h.0) (le-leb (length file) 1048576 h.1)
 
 not_sized : (file : List ℕ) → (IsSized file → ⊥) → has_length file ≡ false
-not_sized file h =
-    false_from_ne_true _ (λ e.
-    let both = and_parts _ _ e in h (leb-true 64 (length file) both.0, leb-true (length file) 1048576 both.1))
+not_sized file h = false_from_ne_true _ (λ e. h (both e))
+  where
+    both : has_length file ≡ true → IsSized file
+    both e =
+        let parts = and_parts _ _ e in
+        (leb-true 64 (length file) parts.0, leb-true (length file) 1048576 parts.1)
 
 pub header_is : (file : List ℕ) (x : ObjectFault) → IsHeaderFault file x
     → object_fault file ≡ Some x
 unfolding object_fault
 header_is file fault.Length h = failed (has_length file) fault.Length _ (not_sized file h)
 header_is file fault.NotElf h =
-    passed (has_length file) fault.Length _ (sized file h.0) ∙ failed (is_elf file) fault.NotElf _ h.1
+    passed (has_length file) fault.Length _ (sized file h.0)
+    ∙ failed (is_elf file) fault.NotElf _ h.1
 header_is file fault.Kind h =
     passed (has_length file) fault.Length _ (sized file h.0)
     ∙ passed (is_elf file) fault.NotElf _ h.1
@@ -82,7 +86,8 @@ whole file h =
     ∙ passed (is_relocatable file) fault.Kind _ h.relocatable
     ∙ passed (has_headers file) fault.Headers _ h.headers
     ∙ pair (wrong_section file) (unsupported_section file)
-    (option_or (table_fault file) (option_or (wrong_symbol file) (option_or (name_again file) (rela_fault file))))
+    (option_or (table_fault file) (option_or (wrong_symbol file)
+    (option_or (name_again file) (rela_fault file))))
     ∙ ap (λ o. option_or (section_fault file) (option_or (table_fault file) o))
     (pair (wrong_symbol file) (name_again file) (rela_fault file))
 

@@ -14,8 +14,11 @@ returns-then-is_wrong c =
     let h = c.section-header.result in
     let e : h.sh_size ≡ sh_size file i = ap (λ (s : Shdr). s.sh_size) c.section-header.ensures in
     let there : j < entry_count file i = rw e at c.loop-j-test.true in
-    let is = is_wrong_at file i j h c.section-size.result c.read_at-entry.result _ c.section-header.ensures c.section-size.ensures c.read_at-entry.ensures c.is_wrong.ensures in
-    sym (c.loop-j.invariant ∙ find_here (λ n. is_wrong_entry file (i, n)) j (entry_count file i) there (sym is ∙ c.if-is_wrong.true))
+    let is = is_wrong_at file i j h c.section-size.result c.read_at-entry.result _
+    c.section-header.ensures c.section-size.ensures c.read_at-entry.ensures
+    c.is_wrong.ensures in
+    sym (c.loop-j.invariant ∙ find_here (λ n. is_wrong_entry file (i, n)) j (entry_count file i)
+    there (sym is ∙ c.if-is_wrong.true))
 
 pub loop-j-preserved : goal.loop-j-preserved
 loop-j-preserved c =
@@ -25,5 +28,8 @@ loop-j-preserved c =
     let h = c.section-header.result in
     let e : h.sh_size ≡ sh_size file i = ap (λ (s : Shdr). s.sh_size) c.section-header.ensures in
     let there : j < entry_count file i = rw e at c.loop-j-test.true in
-    let is = is_wrong_at file i j h c.section-size.result c.read_at-entry.result _ c.section-header.ensures c.section-size.ensures c.read_at-entry.ensures c.is_wrong.ensures in
-    c.loop-j.invariant ∙ find_next (λ n. is_wrong_entry file (i, n)) j (entry_count file i) there (sym is ∙ c.if-is_wrong.false)
+    let is = is_wrong_at file i j h c.section-size.result c.read_at-entry.result _
+    c.section-header.ensures c.section-size.ensures c.read_at-entry.ensures
+    c.is_wrong.ensures in
+    c.loop-j.invariant ∙ find_next (λ n. is_wrong_entry file (i, n)) j (entry_count file i) there
+    (sym is ∙ c.if-is_wrong.false)

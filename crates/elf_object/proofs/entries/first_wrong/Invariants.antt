@@ -12,4 +12,5 @@ abbrev pub invariant-loop-i : goal.invariant-loop-i
 invariant-loop-i l =
     find (is_wrong_entry l.file) (entries l.file)
     ≡ find (is_wrong_entry l.file)
-    (pairs (entry_count l.file) (filter (is_used_rela l.file) (numbers_from l.i (e_shnum l.file - l.i))))
+    (pairs (entry_count l.file) (filter (is_used_rela l.file)
+    (numbers_from l.i (e_shnum l.file - l.i))))

@@ -8,10 +8,12 @@ pub returns-then-fails : goal.returns-then-fails
 returns-then-fails c =
     let there : c.loop-i.i < e_shnum c.args.file.now = omega arith in
     sym (c.loop-i.invariant
-    ∙ find_here (fails c.args.check c.args.file.now) c.loop-i.i (e_shnum c.args.file.now) there (sym c.fails.ensures ∙ c.if-fails.true))
+    ∙ find_here (fails c.args.check c.args.file.now) c.loop-i.i (e_shnum c.args.file.now) there
+    (sym c.fails.ensures ∙ c.if-fails.true))
 
 pub loop-i-preserved : goal.loop-i-preserved
 loop-i-preserved c =
     let there : c.loop-i.i < e_shnum c.args.file.now = omega arith in
     c.loop-i.invariant
-    ∙ find_next (fails c.args.check c.args.file.now) c.loop-i.i (e_shnum c.args.file.now) there (sym c.fails.ensures ∙ c.if-fails.false)
+    ∙ find_next (fails c.args.check c.args.file.now) c.loop-i.i (e_shnum c.args.file.now) there
+    (sym c.fails.ensures ∙ c.if-fails.false)

@@ -7,5 +7,6 @@ pub returns : goal.returns
 returns c =
     let bytes = c.args.bytes.now in
     c.ends_at.ensures
-    ∙ ap (λ n. nat_lt n (length bytes) && (slice_index bytes n == 0) && nat_le 1 n && nat_le n 1024) c.name_length.ensures
+    ∙ ap (λ n. nat_lt n (length bytes) && (slice_index bytes n == 0) && nat_le 1 n && nat_le n 1024)
+    c.name_length.ensures
     ∙ name_in_front bytes

@@ -8,7 +8,10 @@ returns-in-Some c = record { tables = header_is c.args.file.now c.in-Some.fault 
 
 pub returns-in-Some-section_fault : goal.returns-in-Some-section_fault
 returns-in-Some-section_fault c =
-    record { tables = whole c.args.file.now c.in_default.ensures ∙ stop (section_fault c.args.file.now) _ c.in-Some-section_fault.fault c.in-Some-section_fault.ensures }
+    record {
+      tables = whole c.args.file.now c.in_default.ensures ∙ stop
+          (section_fault c.args.file.now) _ c.in-Some-section_fault.fault c.in-Some-section_fault.ensures;
+    }
 
 pub returns-in-Err : goal.returns-in-Err
 returns-in-Err c =
@@ -17,7 +20,8 @@ returns-in-Err c =
       tables =
           whole file c.in_default.ensures
           ∙ pass (section_fault file) _ c.in_default-section_fault.ensures
-          ∙ stop (table_fault file) _ c.in-Err.fault (table_wrong file c.in-Err.fault c.in-Err.ensures);
+          ∙ stop (table_fault file) _ c.in-Err.fault
+          (table_wrong file c.in-Err.fault c.in-Err.ensures);
     }
 
 pub returns-in-Some-2 : goal.returns-in-Some-2
@@ -28,7 +32,8 @@ returns-in-Some-2 c =
           whole file c.in_default.ensures
           ∙ pass (section_fault file) _ c.in_default-section_fault.ensures
           ∙ pass (table_fault file) _ (table_right file c.in-Ok.ensures.1)
-          ∙ stop (symbol_fault file) _ c.in-Some-2.fault (sym c.in-Some-2.is ∙ c.in_ok-fault.ensures);
+          ∙ stop (symbol_fault file) _ c.in-Some-2.fault
+          (sym c.in-Some-2.is ∙ c.in_ok-fault.ensures);
     }
 
 pub returns-in-Some-rela_fault : goal.returns-in-Some-rela_fault

@@ -11,9 +11,11 @@ loop-i-preserved c =
     let there : i < e_shnum file = omega arith in
     elim c.if-is_symtab.branch [
       | then-is_symtab+else-is_some w ↦
-          one_found (is_symtab file) (symtabs file) c.loop-i.found c.if-is_symtab.found i (e_shnum file) there (sym c.is_symtab.ensures ∙ w.if-is_symtab.true)
+          one_found (is_symtab file) (symtabs file) c.loop-i.found c.if-is_symtab.found i
+          (e_shnum file) there (sym c.is_symtab.ensures ∙ w.if-is_symtab.true)
           (sym w.is_some.ensures ∙ w.if-is_some.false) w.found-is c.loop-i.invariant
       | else-is_symtab w ↦
-          none_found (is_symtab file) (symtabs file) c.loop-i.found c.if-is_symtab.found i (e_shnum file) there (sym c.is_symtab.ensures ∙ w.if-is_symtab.false)
+          none_found (is_symtab file) (symtabs file) c.loop-i.found c.if-is_symtab.found i
+          (e_shnum file) there (sym c.is_symtab.ensures ∙ w.if-is_symtab.false)
           w.found-is c.loop-i.invariant
     ]
