@@ -18,7 +18,3 @@ pub mod Footprint
 pub mod Laws
 pub mod Examples
 pub mod ObjectExamples
-pub mod ElfHeader
-pub mod StartSymbol
-pub mod FirstForm
-pub mod FirstImage

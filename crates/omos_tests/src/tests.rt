@@ -3,9 +3,9 @@
 mod fragments;
 mod names;
 
-use elf_object::{Early, first_form};
-use omos_base::{Bytes, Row, put_u16, put_u32, put_u64, u16_at, u32_at, u64_at};
-use omos_model::HeaderFault;
+use fragment_read::fragment;
+use omos_base::{Bytes, Fault, Row, put_u16, put_u32, put_u64, u16_at, u32_at, u64_at};
+use omos_model::ObjectFault;
 use omos_outside::{FixedSink, Got, PlainSource, Sink, Source, Took};
 use std::test::Fail;
 
@@ -62,13 +62,14 @@ fn the_plain_forms_in_memory(rt: HostRuntime) -> Result<(), Fail> {
 }
 
 #[test]
-fn early_answers(rt: HostRuntime) {
+fn files_are_refused_by_their_first_fault(rt: HostRuntime) {
     let header = [0; 64];
-    assert!(rt; matches!(first_form(&header), Err(Early::Object(HeaderFault::NotElf))));
+    let alloc = rt.alloc();
+    assert!(rt; matches!(fragment(alloc, &header), Err(Fault::Refused(ObjectFault::NotElf))));
     assert!(rt;
         matches!(
-            first_form(&header[1..]),
-            Err(Early::Object(HeaderFault::Length))
+            fragment(alloc, &header[1..]),
+            Err(Fault::Refused(ObjectFault::Length))
         )
     );
 }
