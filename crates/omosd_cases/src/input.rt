@@ -9,7 +9,7 @@ use std::rt::Files;
 
 /// The bytes of a case's file, or none, with its changes: `AT=VALUE` sets a byte, `cut=SIZE` keeps
 /// the first bytes, and `pad=SIZE` appends zeros.
-fn bytes_of<R: Files + AllocGlobal>(rt: &R, text: &str) -> Result<Vec<u8>> {
+pub(crate) fn bytes_of<R: Files + AllocGlobal>(rt: &R, text: &str) -> Result<Vec<u8>> {
     let mut words = text.split_whitespace();
     let name = words.next().context("no input")?;
     let mut bytes = match name {

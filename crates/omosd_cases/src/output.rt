@@ -1,6 +1,6 @@
 //! The output of a case.
 
-use crate::input::{number_and_rest, numbers};
+use crate::input::{bytes_of, number_and_rest, numbers};
 use anyhow::{Context, Result, bail, ensure};
 use omos_outside::MemorySink;
 use std::alloc::Global;
@@ -16,14 +16,14 @@ pub(crate) fn sink_of(alloc: Global, writes: &str) -> Result<MemorySink> {
     Ok(MemorySink::new(alloc, room, step, numbers(alloc, fails)?)?)
 }
 
-/// The output is the case's: `nothing`, `line TEXT`, `file NAME`, or `first COUNT NAME`, the first
-/// bytes of a file.
+/// The output is the case's: `nothing`, `line TEXT`, `file NAME` with changes as of an input, or
+/// `first COUNT NAME`, the first bytes of a file.
 pub(crate) fn is_output<R: Files + AllocGlobal>(rt: &R, text: &str, output: &[u8]) -> Result<bool> {
     let (kind, rest) = text.split_once(' ').unwrap_or((text, ""));
     match kind {
         "nothing" => Ok(output.is_empty()),
         "line" => Ok(output.split_last() == Some((&b'\n', rest.as_bytes()))),
-        "file" => Ok(output == fs::read(rt, rest).context(rest)?.as_slice()),
+        "file" => Ok(output == bytes_of(rt, rest)?.as_slice()),
         "first" => {
             let (count, name) = number_and_rest(rest)?;
             let file = fs::read(rt, name).context(name)?;
