@@ -71,7 +71,7 @@ fn place(alloc: Global, evaluated: &Evaluated, sizes: &ByGroup) -> Result<Row<Ro
 /// - L11, a reference is bound to nothing and isn't weak; the first by leaf and number.
 ///
 /// It passes twice over the pieces and twice over the references, and looks each target of a GOT
-/// fixup up in a table. No object is copied.
+/// fixup up in a table. No object is copied. Want of memory may come where any of this grows.
 pub fn lay(alloc: Global, evaluated: &Evaluated) -> Result<Layout, Fault<Refusal>>
     ensures laid { IsLaid result evaluated.now }
 {
