@@ -65,7 +65,12 @@ fn the_plain_forms_in_memory(rt: HostRuntime) -> Result<(), Fail> {
 fn files_are_refused_by_their_first_fault(rt: HostRuntime) {
     let header = [0; 64];
     let alloc = rt.alloc();
-    assert!(rt; matches!(fragment(alloc, &header), Err(Fault::Refused(ObjectFault::NotElf))));
+    assert!(rt;
+        matches!(
+            fragment(alloc, &header),
+            Err(Fault::Refused(ObjectFault::NotElf))
+        )
+    );
     assert!(rt;
         matches!(
             fragment(alloc, &header[1..]),
