@@ -60,7 +60,7 @@ one_leaf v f s room =
     let first = and_parts (nat_lt v.leaves 256) (nat_le (v.exports + length f.exports) 524288) parts.0 in
     let few : v.leaves < 256 = ltb-true v.leaves 256 first.0 in
     let bounded : v.fixups + length f.fixups ≤ 524288 =
-        leb-true (v.fixups + length f.fixups) 524288 parts.1 in
+    leb-true (v.fixups + length f.fixups) 524288 parts.1 in
     record {
       leaves = refl;
       fixups = omega (arith, length-map f.fixups (λ (x : Fixup). mark_of v.leaves x.aim));
@@ -114,5 +114,5 @@ read_first ns p s e v w t h =
 pub counts_law : CountsLaw
 counts_law ns path t v is =
     let h = subst (Holds Counted first_visit) is
-        (expand_holds Counted counted (source ns) (read_first ns) 32 [] false path path first_visit) in
+    (expand_holds Counted counted (source ns) (read_first ns) 32 [] false path path first_visit) in
     (omega (arith, h.leaves, h.few), omega (arith, h.fixups, h.bounded))
