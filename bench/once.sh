@@ -1,20 +1,20 @@
 #!/usr/bin/env bash
-# Times `omosd once` beside `ld` (binutils) on two objects: examples/hello, and one with about 1 MB
-# of code. Both link the same object to the same address; before anything is timed the two
-# executables are run and what they do is compared.
+# Times `omosd once` beside ld, gold and tcc, those that are installed, on examples/numerals, on 1 MB
+# of code, and on 175 KB of code with 35,000 relocations. All link the same object; before anything is
+# timed the executables are run and what they do is compared.
 #
 #   usage: bench/once.sh OMOSD [RUNS]
 #
-# Prints, for each object, the milliseconds of one run of each, start of the process included (the
-# mean of RUNS, 200 if left out, least of five rounds, the files in memory where /dev/shm is there),
-# what omosd takes of ld's time, and the most memory that each held.
+# Prints, for each object and linker, the milliseconds of one run, start of the process included
+# (the mean of RUNS, 100 if left out, least of five rounds, the files in memory where /dev/shm is
+# there), and the most memory that it held.
 set -eu
 omosd=$(realpath "$1")
-runs=${2:-200}
+runs=${2:-100}
 here=$(cd "$(dirname "$0")/.." && pwd)
-for tool in as objcopy ld; do
+for tool in as gcc ld; do
     command -v "$tool" > /dev/null || {
-        echo "bench: $tool is missing: install the package binutils" >&2
+        echo "bench: $tool is missing: install the packages binutils and gcc" >&2
         exit 1
     }
 done
@@ -22,23 +22,22 @@ work=$(mktemp -d -p /dev/shm 2> /dev/null || mktemp -d)
 trap 'rm -rf "$work"' EXIT
 cd "$work"
 
-plain() { # the form that `once` takes: one section of code, one symbol
-    as -o assembled.o "$1"
-    objcopy --remove-section=.data --remove-section=.bss --strip-unneeded assembled.o "$2"
+gcc -c -ffreestanding -fno-stack-protector -O2 -o numerals.o "$here/examples/numerals/numerals.c"
+assemble() { # NAME WHAT-FOLLOWS
+    printf '.globl _start\n_start: mov $60, %%eax\nmov $7, %%edi\nsyscall\n%b\n' "$2" | as -o "$1" -
 }
-plain "$here/examples/hello/hello.s" hello.o
-cat > large.s <<'END'
-        .globl  _start
-        .text
-_start: mov     $60, %eax
-        mov     $7, %edi
-        syscall
-        .skip   1048000, 0x90
-END
-plain large.s large.o
+assemble code.o '.skip 1000000, 0x90'
+assemble calls.o '.rept 35000\ncall _start\n.endr'
 
-mine() { "$omosd" once < "$1" > mine.out; }
-peer() { ld -Ttext=0x400000 -o peer.out "$1"; }
+omosd() { "$omosd" once < "$1" > out.omosd; }
+bfd() { ld -Ttext=0x400000 -o out.bfd "$1"; }
+gold() { ld.gold -Ttext=0x400000 -o out.gold "$1"; }
+lld() { ld.lld --image-base=0x400000 -o out.lld "$1"; }
+tcc() { command tcc -nostdlib -static -o out.tcc "$1"; }
+linkers=(omosd bfd)
+type -P ld.gold > /dev/null && linkers+=(gold)
+type -P ld.lld > /dev/null && linkers+=(lld)
+type -P tcc > /dev/null && linkers+=(tcc)
 
 ran() { # what an executable prints, and its status
     local status=0
@@ -57,28 +56,34 @@ nanoseconds() { # the least mean of five rounds
     echo "$least"
 }
 
-memory() { # the most kilobytes that a command held, where GNU time (the package time) can tell
+memory() { # the most kilobytes that a linker held, where GNU time (the package time) can tell
     [ -x /usr/bin/time ] || { echo "?"; return; }
-    /usr/bin/time -f %M -o memory "$@" > memory.out
+    case $1 in
+        omosd) /usr/bin/time -f %M -o memory "$omosd" once < "$2" > memory.out ;;
+        bfd) /usr/bin/time -f %M -o memory ld -Ttext=0x400000 -o memory.out "$2" ;;
+        gold) /usr/bin/time -f %M -o memory ld.gold -Ttext=0x400000 -o memory.out "$2" ;;
+        lld) /usr/bin/time -f %M -o memory ld.lld --image-base=0x400000 -o memory.out "$2" ;;
+        tcc) /usr/bin/time -f %M -o memory tcc -nostdlib -static -o memory.out "$2" ;;
+    esac
     cat memory
 }
 
-printf '%-10s %10s %10s %8s %14s %14s\n' object 'omosd ms' 'ld ms' share 'omosd KB' 'ld KB'
-for object in hello.o large.o; do
-    mine "$object"
-    peer "$object"
-    chmod +x mine.out
-    if [ "$(ran mine.out)" != "$(ran peer.out)" ]; then
-        echo "bench: the two executables of $object differ in what they do" >&2
-        exit 1
-    fi
-    a=$(nanoseconds mine "$object")
-    b=$(nanoseconds peer "$object")
-    printf '%-10s %10s %10s %8s %14s %14s\n' "$object" \
-        "$((a / 1000000)).$(printf %03d $((a / 1000 % 1000)))" \
-        "$((b / 1000000)).$(printf %03d $((b / 1000 % 1000)))" \
-        "$((a * 100 / b))%" \
-        "$(memory "$omosd" once < "$object")" \
-        "$(memory ld -Ttext=0x400000 -o peer.out "$object")"
+printf '%-16s %-8s %10s %10s\n' object linker ms KB
+for object in numerals.o code.o calls.o; do
+    omosd "$object"
+    chmod +x out.omosd
+    wanted=$(ran out.omosd)
+    for linker in "${linkers[@]}"; do
+        "$linker" "$object"
+        chmod +x "out.$linker"
+        if [ "$(ran "out.$linker")" != "$wanted" ]; then
+            echo "bench: the executables of $object differ in what they do" >&2
+            exit 1
+        fi
+        time=$(nanoseconds "$linker" "$object")
+        printf '%-16s %-8s %10s %10s\n' "$object" "$linker" \
+            "$((time / 1000000)).$(printf %02d $((time / 10000 % 100)))" "$(memory "$linker" "$object")"
+    done
 done
-echo "$(date +%F), $(nproc) processors, load $(cut -d' ' -f1 /proc/loadavg), $(ld --version | head -n 1)"
+echo "$(date +%F), $(nproc) processors, load $(cut -d' ' -f1 /proc/loadavg)"
+ld --version | head -n 1

@@ -1,6 +1,6 @@
 -- The answer for an object alone.
-use Rattle.std.proofs.Common.{◌≡◌, ◌≢◌, ℕ, ◌+◌, ◌<◌, ◌≤◌, List, [], ◌∷◌, ◌++◌, length, take, drop, Option, Some, None, Result, Ok, Err}
-use Rattle.std.proofs.Common.{refl, sym, ap, ◌∙◌, subst, arith}
+use Rattle.std.proofs.Common.{◌≡◌, ◌≢◌, ℕ, List, [], Option, Some, None, Result, Ok, Err}
+use Rattle.std.proofs.Common.{ap, ◌∙◌}
 use Rattle.omos_base.specs.Fault.{MatchFault}
 use Rattle.omos_base.specs.declared.fault.Fault.{Fault}
 use Rattle.omos_base.specs.declared.fault.Fault.TheVariants.{Refused, NoMemory}
@@ -16,7 +16,7 @@ use Rattle.image_write.specs.Written.{Writes}
 use Rattle.link_layout.specs.IsLaid.{IsLaid}
 use Rattle.link_model.specs.Module.{Module, alone, plan_of_module}
 use Rattle.link_model.specs.Plan.{Plan, plan_of}
-use Rattle.omosd_calls.specs.Lone.{lone_answer, lone_base, lone_path, unless_link, unless_object}
+use Rattle.omosd_calls.specs.Lone.{lone_base, lone_path, unless_link, unless_object}
 use Rattle.omosd_calls.specs.Lone.{IsImage}
 
 -- an image has bytes: those of its header

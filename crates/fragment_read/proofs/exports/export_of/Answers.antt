@@ -1,5 +1,3 @@
-use Rattle.std.proofs.Common.{◌≡◌}
-use Rattle.std.proofs.lemmas.Bool.{and_parts}
 use Rattle.fragment_read.proofs.Right.{placed_export}
 use Rattle.fragment_read.proofs.exports.export_of.Goals as goal
 

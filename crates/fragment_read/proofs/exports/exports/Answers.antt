@@ -1,9 +1,7 @@
-use Rattle.std.proofs.Common.{◌≡◌, ◌+◌, ◌-◌, ◌≤◌, ◌∷◌, ◌++◌, [], List, Bool, true, false, ℕ, sym, ap, ◌∙◌, cond, length, map, arith}
+use Rattle.std.proofs.Common.{◌≡◌, ◌+◌, ◌-◌, ◌∷◌, ◌++◌, [], List, Bool, true, false, ℕ, sym, ap, ◌∙◌, cond, map, arith}
 use Rattle.std.specs.Prelude.{filter}
-use Rattle.std.specs.List.{count_by}
-use Rattle.omos_model.specs.ElfFields.{symbol_count}
 use Rattle.omos_model.specs.ElfFaults.{is_export}
-use Rattle.omos_model.specs.FragmentOf.{common_piece, is_common, kept_sections}
+use Rattle.omos_model.specs.FragmentOf.{common_piece, is_common}
 use Rattle.omos_model.specs.Numbers.{numbers_from}
 use Rattle.omos_model.specs.declared.fragment.Export.{Export}
 use Rattle.fragment_read.specs.Numbered.{export_of}

@@ -1,4 +1,4 @@
-use Rattle.std.proofs.Common.{◌≡◌, ◌<◌, ◌≤◌, true, false, sym, ap, ◌∙◌, arith}
+use Rattle.std.proofs.Common.{◌<◌, ◌≤◌, sym, ◌∙◌, arith}
 use Rattle.std.proofs.lemmas.Bool.{true≢false}
 use Rattle.fragment_read.proofs.Right.{aim_there, has_name_unless_local, local_common, placed_local, undropped}
 use Rattle.fragment_read.proofs.fixups.aim_of.Goals as goal

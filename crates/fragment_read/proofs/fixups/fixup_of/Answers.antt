@@ -1,4 +1,4 @@
-use Rattle.std.proofs.Common.{◌≡◌, ◌/◌, ◌%◌, ℕ, Some, sym, ap, ◌∙◌, subst, true, arith}
+use Rattle.std.proofs.Common.{◌≡◌, ◌/◌, ◌%◌, ℕ, sym, ap, ◌∙◌, subst, true, arith}
 use Rattle.omos_model.specs.ElfFields.{r_info, r_offset}
 use Rattle.omos_model.specs.ElfFaults.{is_aim_of, kind_of}
 use Rattle.elf_words.specs.declared.rela.Rela.{Rela}

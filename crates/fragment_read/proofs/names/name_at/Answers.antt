@@ -1,8 +1,3 @@
-use Rattle.std.proofs.Common.{◌≡◌, Option, Some, None, sym, ap, ◌∙◌, cond}
-use Rattle.std.proofs.lemmas.Option.{get_or_from_slice_get}
-use Rattle.omos_model.specs.ElfFields.{name_of}
-use Rattle.omos_model.specs.Names.{Name}
-use Rattle.fragment_read.specs.Numbered.{name_if}
 use Rattle.fragment_read.proofs.names.name_at.Goals as goal
 use Rattle.fragment_read.proofs.Named.{name_there}
 

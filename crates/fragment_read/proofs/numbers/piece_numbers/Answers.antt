@@ -1,4 +1,4 @@
-use Rattle.std.proofs.Common.{◌≡◌, ◌+◌, ◌≤◌, ◌++◌, ◌∷◌, [], Bool, true, false, ℕ, sym, ap, ◌∙◌, cond, get_or, length, arith, length-append}
+use Rattle.std.proofs.Common.{◌≡◌, ◌+◌, ◌∷◌, [], Bool, true, false, ℕ, sym, ap, ◌∙◌, cond, get_or, length, arith, length-append}
 use Rattle.omos_model.specs.ElfFaults.{is_kept}
 use Rattle.omos_model.specs.ElfFields.{e_shnum}
 use Rattle.omos_model.specs.FragmentOf.{section_piece}

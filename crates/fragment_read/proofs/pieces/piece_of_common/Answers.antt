@@ -2,7 +2,7 @@ use Rattle.std.proofs.Common.{◌≡◌, ◌==◌, ◌||◌, true, sym, ap, arit
 use Rattle.omos_model.specs.ElfFields.{st_size, st_value}
 use Rattle.omos_model.specs.FragmentParts.{is_alignment}
 use Rattle.elf_words.specs.declared.sym.Sym.{Sym}
-use Rattle.fragment_read.proofs.Right.{CommonSymbol, common_right}
+use Rattle.fragment_read.proofs.Right.{common_right}
 use Rattle.fragment_read.proofs.pieces.piece_of_common.Goals as goal
 
 pub alignment_of-requires : goal.alignment_of-requires

@@ -1,5 +1,5 @@
-use Rattle.std.proofs.Common.{◌≡◌, Ok, None, sym, ap, ◌∙◌, subst}
-use Rattle.omos_model.specs.FragmentOf.{fragment_of, parts_of_file}
+use Rattle.std.proofs.Common.{Ok, sym, ap, ◌∙◌}
+use Rattle.omos_model.specs.FragmentOf.{parts_of_file}
 use Rattle.fragment_read.proofs.Whole.{fragment_is, refused_alike}
 use Rattle.fragment_read.proofs.read.fragment.Goals as goal
 

@@ -1,4 +1,3 @@
-use Rattle.std.proofs.Common.{◌≡◌}
 use Rattle.omosd_calls.specs.Lone.{lone_path}
 use Rattle.omosd_calls.proofs.ObjectPath.{lone_path_is, no_fault}
 use Rattle.omosd_calls.proofs.lone.lone_path.Goals as goal
