@@ -1,12 +1,16 @@
 # The newcomer's commands. The test command, and the gate, is `rt ci`.
 OMOSD := crates/omosd/out/omosd
 
-.PHONY: help build demo bench clean
+FRAGMENT := crates/omos_fragment/out/omos_fragment
+
+.PHONY: help build demo examples real bench clean
 
 help:
 	@echo "make build   proves omosd and builds it as $(OMOSD)"
-	@echo "make demo    links examples/hello with it and runs the image"
-	@echo "make bench   times it beside ld"
+	@echo "make demo    links the examples with it, runs the images and shows what one prints"
+	@echo "make examples  the same, and compares what each prints"
+	@echo "make real    compares what is kept of compilers' objects with readelf, and runs with ld's"
+	@echo "make bench   times it beside other linkers, and counts instructions"
 	@echo "rt ci        proves and tests everything: the test command"
 
 build:
@@ -16,11 +20,20 @@ build:
 	@rm -f crates/omosd/out.log
 	@echo "The proved program is $(OMOSD)."
 
-demo: build
+demo: build examples
 	@examples/demo.sh $(OMOSD)
+
+examples: build
+	@examples/run.sh $(OMOSD)
+
+real: build
+	@cd crates/omos_fragment && rt run -- data/slots.o > out.log 2>&1 || { tail -n 20 out.log; exit 1; }
+	@rm -f crates/omos_fragment/out.log
+	@tests/real.py $(FRAGMENT) $(OMOSD)
 
 bench: build
 	@bench/once.sh $(OMOSD)
+	@bench/objects.sh $(OMOSD)
 
 clean:
 	rm -rf crates/*/out

@@ -1,6 +1,7 @@
 //! The tests, by subject.
 
 mod fragments;
+mod lines;
 mod names;
 
 use fragment_read::fragment;
