@@ -1,10 +1,11 @@
 -- A run of numbers as it is counted up: the first that passes a test, and all that pass it.
 use Rattle.std.proofs.Common.{◌≡◌, ℕ, zero, suc, ◌+◌, ◌-◌, ◌<◌, Bool, true, false, Option, Some, None}
-use Rattle.std.proofs.Common.{List, ◌∷◌, ◌++◌, refl, sym, ap, ◌∙◌, cond, arith}
+use Rattle.std.proofs.Common.{List, ◌∷◌, ◌++◌, refl, sym, ap, subst, ◌∙◌, cond, arith}
 use Rattle.std.specs.Prelude.{filter}
 use Rattle.std.specs.List.{find}
 use Rattle.std.specs.Option.{is_some, option_to_list}
 use Rattle.omos_model.specs.Numbers.{numbers_from}
+use Rattle.omos_model.proofs.Ranges.{InRange, first_in, rest_in}
 
 split : (i n : ℕ) → i < n → n - i ≡ suc (n - (i + 1))
 split i n h = omega arith
@@ -55,3 +56,18 @@ pub none_found : (p : ℕ → Bool) (xs : List ℕ) (o now : Option ℕ) (i n : 
     → xs ≡ option_to_list o ++ filter p (numbers_from i (n - i))
     → xs ≡ option_to_list now ++ filter p (numbers_from (i + 1) (n - (i + 1)))
 none_found p xs o now i n h miss is e = e ∙ rw is (ap (λ ys. option_to_list o ++ ys) (filter_next p i n h miss))
+
+-- ---- what was found
+
+pub found_in : (p : ℕ → Bool) (s c k : ℕ) → find p (numbers_from s c) ≡ Some k
+    → InRange s c k × (p k ≡ true)
+found_in p s zero k e = cc
+found_in p s (suc c) k e = go (p s) refl e (found_in p (s + 1) c k)
+  where
+    go : (b : Bool) → p s ≡ b → cond b (Some s) (find p (numbers_from (s + 1) c)) ≡ Some k
+        → (find p (numbers_from (s + 1) c) ≡ Some k → InRange (s + 1) c k × (p k ≡ true))
+        → InRange s (suc c) k × (p k ≡ true)
+    go true d i rest =
+        let same : s ≡ k = cc in
+        (subst (λ n. InRange s (suc c) n) same (first_in s c), ap p (sym same) ∙ d)
+    go false d i rest = let more = rest i in (rest_in s c k more.0, more.1)

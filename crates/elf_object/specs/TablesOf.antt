@@ -1,6 +1,7 @@
 -- What is kept of a file without a fault beside its bytes.
 use Rattle.std.specs.Prelude.{◌≡◌, ℕ, ◌+◌, ◌*◌, ◌<◌, ◌≤◌, List, length, None}
-use Rattle.omos_model.specs.ElfFields.{section_bytes, sh_link, sh_offset, symbol_count, symbol_table}
+use Rattle.omos_model.specs.ElfFields.{section_bytes, sh_link, sh_offset, symbol_count}
+use Rattle.omos_model.specs.ElfFields.{symbol_table}
 use Rattle.omos_model.specs.ElfFaults.{object_fault}
 use Rattle.elf_object.specs.Stages.{HasHeaders}
 

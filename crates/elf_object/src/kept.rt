@@ -4,7 +4,8 @@ ghost use Rattle.std.specs.Prelude.{◌≡◌, ◌<◌, ◌≤◌, ◌/◌, ◌%
 ghost use Rattle.std.specs.List.{find, list_any};
 ghost use Rattle.omos_model.specs.ElfFields.{e_shnum, has_flag, is_section, sections};
 ghost use Rattle.omos_model.specs.ElfFaults.{is_alloc, is_kept, is_nobits, is_supported};
-ghost use Rattle.omos_model.specs.ElfFaults.{is_unsupported, is_wrong_section, lies_in_file, loaded_types};
+ghost use Rattle.omos_model.specs.ElfFaults.{is_unsupported, is_wrong_section, lies_in_file};
+ghost use Rattle.omos_model.specs.ElfFaults.{loaded_types};
 ghost use Rattle.omos_model.specs.FragmentParts.{is_alignment};
 ghost use Rattle.elf_object.specs.Stages.{HasHeaders};
 ghost use Rattle.elf_object.specs.Checks.{fails};
@@ -45,6 +46,7 @@ fn has(flags: u64, flag: u64) -> bool
     flags / flag % 2 == 1
 }
 
+/// A type of section that can be loaded.
 fn is_loaded(sh_type: u32) -> bool
     ensures { result ≡ list_any (λ t. t == sh_type) loaded_types }
 {
@@ -66,6 +68,7 @@ pub(crate) fn is_section(file: &[u8], i: usize) -> bool
     0 < i && i < count_of_sections(file)
 }
 
+/// A section that is to be loaded.
 fn is_alloc(file: &[u8], i: usize) -> bool
     requires headers { HasHeaders file.now }
     requires there { i < e_shnum file.now }
@@ -74,6 +77,7 @@ fn is_alloc(file: &[u8], i: usize) -> bool
     has(section(file, i).sh_flags, SHF_ALLOC)
 }
 
+/// Of a type that can be loaded, neither TLS nor COMPRESSED, and no code that is written or NOBITS.
 fn is_supported(file: &[u8], i: usize) -> bool
     requires headers { HasHeaders file.now }
     requires there { i < e_shnum file.now }
@@ -95,6 +99,7 @@ pub(crate) fn is_kept(file: &[u8], i: usize) -> bool
     is_section(file, i) && is_alloc(file, i) && is_supported(file, i)
 }
 
+/// A section that has no bytes in the file.
 pub(crate) fn is_nobits(file: &[u8], i: usize) -> bool
     requires headers { HasHeaders file.now }
     requires there { i < e_shnum file.now }
@@ -113,6 +118,7 @@ pub(crate) fn lies_in_file(file: &[u8], i: usize) -> bool
     ends_within(file, header.sh_offset, header.sh_size)
 }
 
+/// A kept section whose alignment, size or place is wrong.
 fn is_wrong_section(file: &[u8], i: usize) -> bool
     requires headers { HasHeaders file.now }
     requires there { i < e_shnum file.now }
@@ -125,12 +131,14 @@ fn is_wrong_section(file: &[u8], i: usize) -> bool
             || (!is_nobits(file, i) && !lies_in_file(file, i)))
 }
 
+/// REL, GROUP and SYMTAB_SHNDX.
 fn is_unsupported_type(sh_type: u32) -> bool
     ensures { result ≡ list_any (λ t. t == sh_type) (9 ∷ 17 ∷ 18 ∷ []) }
 {
     sh_type == SHT_REL || sh_type == SHT_GROUP || sh_type == SHT_SYMTAB_SHNDX
 }
 
+/// A section of a form that can't be taken, or one that is to be loaded and can't be.
 fn is_unsupported(file: &[u8], i: usize) -> bool
     requires headers { HasHeaders file.now }
     requires there { i < e_shnum file.now }

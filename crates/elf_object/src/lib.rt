@@ -1,14 +1,17 @@
-//! Reads object files: what their header says, and those of the first form.
+//! Reads object files: their tables, or the first fault that they have; and the first form.
 //!
-//! The file is lent, never copied, and no call takes memory.
+//! The file is lent, never copied. What a file means is not known here, only where it stands.
 #![tactic(auto)]
 
+mod entries;
+mod exports;
 mod first;
 mod header;
 mod kept;
 mod names;
 mod read;
 mod reads;
+mod relas;
 mod section;
 mod symbol;
 mod symbols;

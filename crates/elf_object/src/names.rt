@@ -1,10 +1,9 @@
 //! Names in a string table (System V gABI, chapter 4, "String Table").
 
-ghost use Rattle.std.specs.Prelude.{◌≡◌, ◌<◌, ◌≤◌, ◌==◌, ◌&&◌, ◌||◌, not, drop, length, nat_le, nat_lt, slice_index};
+ghost use Rattle.std.specs.Prelude.{◌≡◌, ◌<◌, ◌≤◌, ◌==◌, ◌&&◌, ◌||◌, not, drop, length, nat_le};
+ghost use Rattle.std.specs.Prelude.{nat_lt, slice_index};
 ghost use Rattle.std.specs.List.{list_any, list_all, prefix_len, take_while};
 ghost use Rattle.omos_model.specs.Names.{is_name_byte, is_symbol_name};
-
-use crate::symtab::Symbols;
 
 /// What stands from a place on, nothing where that is behind the end.
 pub(crate) fn rest_from(bytes: &[u8], place: u32) -> &[u8]
@@ -26,22 +25,11 @@ pub(crate) fn until_zero(bytes: &[u8]) -> &[u8]
     bytes
 }
 
-/// The name that begins at a place of the string table.
-pub(crate) fn name_at(table: Symbols<'_>, st_name: u32) -> &[u8]
-    ensures { result.now ≡ take_while (λ b. not (b == 0)) (drop st_name table.entry.strings.now) }
-{
-    until_zero(rest_from(table.strings, st_name))
-}
-
-/// A byte that a symbol name may have.
+/// A byte that a symbol name may have, letters first.
 fn is_name_byte(byte: u8) -> bool
     ensures { result ≡ is_name_byte byte }
 {
-    ((33 <= byte && byte <= 126) || 128 <= byte)
-        && byte != b'"'
-        && byte != b'('
-        && byte != b')'
-        && byte != b';'
+    matches!(byte, b'<'..=b'~' | 0x80..=0xff | b'*'..=b':' | b'#'..=b'\'' | b'!')
 }
 
 /// How many bytes that a name may have stand in front.

@@ -1,20 +1,89 @@
-//! Reads the tables of an object file.
+//! Reads the tables of an object file: one pass for each kind of fault, in the order of faults.
 
-ghost use Rattle.std.specs.Prelude.{◌≡◌, Some, None};
+ghost use Rattle.std.specs.Prelude.{◌≡◌, Some, None, IfOk};
 ghost use Rattle.omos_base.specs.Fault.{MatchFault};
 ghost use Rattle.omos_model.specs.ElfFaults.{object_fault};
+ghost use Rattle.elf_object.specs.Stages.{HasHeaders, rela_fault, section_fault, symbol_fault};
+ghost use Rattle.elf_object.specs.TablesOf.{AreSymbols};
 
+use crate::kept::{Check, first_failing};
+use crate::reads::header_fault;
+use crate::symtab::{Symbols, symbols_of};
 use crate::tables::Tables;
-use omos_base::Fault;
+use crate::{entries, exports, relas, symbols};
+use omos_base::{Fault, NoMemory};
 use omos_model::ObjectFault;
 use std::alloc::Global;
 
-/// Reads the tables of an object file. The refusal is the file's first fault, O1 to O11.
-pub fn read_tables(_alloc: Global, file: &[u8]) -> Result<Tables<'_>, Fault<ObjectFault>>
+fn section_fault(file: &[u8]) -> Option<ObjectFault>
+    requires { HasHeaders file.now }
+    ensures { result ≡ section_fault file.now }
+{
+    if let Some(i) = first_failing(Check::Kept, file) {
+        return Some(ObjectFault::Section(i));
+    }
+    match first_failing(Check::Supported, file) {
+        Some(i) => Some(ObjectFault::Unsupported(i)),
+        None => None,
+    }
+}
+
+fn symbol_fault(
+    alloc: Global,
+    file: &[u8],
+    table: Symbols<'_>,
+) -> Result<Option<ObjectFault>, NoMemory>
+    requires headers { HasHeaders file.now }
+    requires right { AreSymbols file.now table.count table.at table.strings.now }
+    ensures { IfOk result (λ x. x ≡ symbol_fault file.now) }
+{
+    if let Some(k) = symbols::first_wrong(file, table) {
+        return Ok(Some(ObjectFault::Symbol(k)));
+    }
+    exports::twice(alloc, file, table)
+}
+
+fn rela_fault(file: &[u8], table: Symbols<'_>) -> Option<ObjectFault>
+    requires headers { HasHeaders file.now }
+    requires right { AreSymbols file.now table.count table.at table.strings.now }
+    ensures { result ≡ rela_fault file.now }
+{
+    if let Some(i) = relas::first_wrong(file) {
+        return Some(ObjectFault::Relas(i));
+    }
+    match entries::first_wrong(file, table) {
+        Some((i, j)) => Some(ObjectFault::Rela(i, j)),
+        None => None,
+    }
+}
+
+/// Reads the tables of an object file. The refusal is the file's first fault: O1 to O4 of its
+/// header, O5 and O6 of its sections, O7 of its symbol table, O8 and O9 of its symbols, O10 and
+/// O11 of its relocations, in this order, each of the least section, symbol and entry.
+///
+/// It costs a pass over the section headers for each of O5, O6, O7, O10 and O11, two over the
+/// symbols and their names, and one over the relocations. The memory is that of a set with an entry
+/// for each symbol, and is given back.
+pub fn read_tables(alloc: Global, file: &[u8]) -> Result<Tables<'_>, Fault<ObjectFault>>
     ensures tables { MatchFault result
         (λ t. (t ≡ file.now) × (object_fault file.now ≡ None))
         (λ x. object_fault file.now ≡ Some x) }
 {
-    let _ = file;
-    Err(Fault::NoMemory)
+    if let Some(fault) = header_fault(file) {
+        return Err(Fault::Refused(fault));
+    }
+    if let Some(fault) = section_fault(file) {
+        return Err(Fault::Refused(fault));
+    }
+    let table = match symbols_of(file) {
+        Ok(table) => table,
+        Err(fault) => return Err(Fault::Refused(fault)),
+    };
+    if let Some(fault) = symbol_fault(alloc, file, table)? {
+        return Err(Fault::Refused(fault));
+    }
+    if let Some(fault) = rela_fault(file, table) {
+        return Err(Fault::Refused(fault));
+    }
+    Ok(Tables::of(file, table))
 }

@@ -1,6 +1,7 @@
 //! Single fields of a file, and the tests of its header that decide whether it is an object.
 
-ghost use Rattle.std.specs.Prelude.{◌≡◌, ◌<◌, ◌≤◌, ◌+◌, ◌*◌, ◌/◌, ◌%◌, ◌==◌, length, MatchOption, nat_le, true};
+ghost use Rattle.std.specs.Prelude.{◌≡◌, ◌<◌, ◌≤◌, ◌+◌, ◌*◌, ◌/◌, ◌%◌, ◌==◌, length, MatchOption};
+ghost use Rattle.std.specs.Prelude.{nat_le, true};
 ghost use Rattle.std.specs.List.{list_any};
 ghost use Rattle.omos_base.specs.Fields.{number_at};
 ghost use Rattle.omos_model.specs.ElfFields.{e_shnum, header_at, section_bytes};

@@ -1,10 +1,11 @@
 //! Symbols (System V gABI, chapter 4, "Symbol Table"), and which is the first that is wrong.
 
-ghost use Rattle.std.specs.Prelude.{◌≡◌, ◌+◌, ◌*◌, ◌/◌, ◌%◌, ◌<◌, ◌≤◌, ◌==◌, ◌&&◌, ◌||◌, not, drop, nat_le};
+ghost use Rattle.std.specs.Prelude.{◌≡◌, ◌+◌, ◌*◌, ◌/◌, ◌%◌, ◌<◌, ◌≤◌, ◌==◌, ◌&&◌, ◌||◌, not, drop};
+ghost use Rattle.std.specs.Prelude.{nat_le};
 ghost use Rattle.std.specs.List.{find, list_any, take_while};
 ghost use Rattle.omos_model.specs.Names.{is_symbol_name};
 ghost use Rattle.omos_model.specs.FragmentParts.{is_alignment, max_size};
-ghost use Rattle.omos_model.specs.ElfFields.{is_section, sh_size};
+ghost use Rattle.omos_model.specs.ElfFields.{is_section, name_of, sh_size};
 ghost use Rattle.omos_model.specs.ElfFields.{st_info, symbol_at, symbols};
 ghost use Rattle.omos_model.specs.ElfFaults.{abs, common, is_kept, is_wrong_symbol, undef};
 ghost use Rattle.elf_words.specs.Sym.{sym_at};
@@ -12,10 +13,27 @@ ghost use Rattle.elf_object.specs.Stages.{HasHeaders};
 ghost use Rattle.elf_object.specs.TablesOf.{AreSymbols};
 
 use crate::kept::{is_alignment, is_kept, is_section};
-use crate::names::{begins_with_name, rest_from};
+use crate::names::{begins_with_name, rest_from, until_zero};
 use crate::reads::section;
 use crate::symtab::Symbols;
 use elf_words::{Record, Sym};
+
+pub(crate) const STB_LOCAL: u8 = 0;
+
+pub(crate) const STB_GLOBAL: u8 = 1;
+
+pub(crate) const STB_WEAK: u8 = 2;
+
+const STT_COMMON: u8 = 5;
+
+pub(crate) const SHN_UNDEF: u16 = 0;
+
+const SHN_ABS: u16 = 0xfff1;
+
+const SHN_COMMON: u16 = 0xfff2;
+
+/// The largest common symbol, in bytes.
+const MAX_SIZE: u64 = 8_388_608;
 
 /// A symbol by its number.
 #[tactic(auto, unfolding(omos_base::specs::Fields::number_at))]
@@ -28,22 +46,14 @@ pub(crate) fn symbol(file: &[u8], table: Symbols<'_>, k: u32) -> Sym
     Sym::read_at(file, table.at + 24 * k as usize)
 }
 
-const STB_LOCAL: u8 = 0;
-
-const STB_GLOBAL: u8 = 1;
-
-const STB_WEAK: u8 = 2;
-
-const STT_COMMON: u8 = 5;
-
-const SHN_UNDEF: u16 = 0;
-
-const SHN_ABS: u16 = 0xfff1;
-
-const SHN_COMMON: u16 = 0xfff2;
-
-/// The largest common symbol, in bytes.
-const MAX_SIZE: u64 = 8_388_608;
+/// The name of a symbol: the bytes before the first zero byte.
+pub(crate) fn name<'a>(file: &[u8], table: Symbols<'a>, k: u32) -> &'a [u8]
+    requires right { AreSymbols file.now table.count table.at table.strings.now }
+    requires there { k < table.count }
+    ensures { result.now ≡ name_of file.now k }
+{
+    until_zero(rest_from(table.strings, symbol(file, table, k).st_name))
+}
 
 /// LOCAL, GLOBAL or WEAK, and no thread-local type.
 fn has_right_info(st_info: u8) -> bool
@@ -94,6 +104,7 @@ fn has_right_name(table: Symbols<'_>, is_named: bool, st_name: u32) -> bool
     !is_named || begins_with_name(rest_from(table.strings, st_name))
 }
 
+/// A symbol that is wrong by itself, whatever other symbols there are.
 fn is_wrong_symbol(file: &[u8], table: Symbols<'_>, k: u32) -> bool
     requires headers { HasHeaders file.now }
     requires right { AreSymbols file.now table.count table.at table.strings.now }

@@ -49,6 +49,7 @@ fn is_strtab(file: &[u8], i: usize) -> bool
     is_section(file, i) && section(file, i).sh_type == SHT_STRTAB && lies_in_file(file, i)
 }
 
+/// A symbol table of at most 65,535 entries that lies in the file, as its string table does.
 fn is_right_symtab(file: &[u8], i: usize) -> bool
     requires headers { HasHeaders file.now }
     requires there { i < e_shnum file.now }

@@ -1,20 +1,23 @@
 //! The tables of an object file without a fault.
 
-ghost use Rattle.std.specs.Prelude.{◌≡◌, ◌+◌, ◌*◌, ◌/◌, ◌<◌, ◌≤◌, ◌==◌, [], None, IsTrue, if◌then◌else◌};
+ghost use Rattle.std.specs.Prelude.{◌≡◌, ◌+◌, ◌*◌, ◌/◌, ◌<◌, ◌≤◌, ◌==◌, [], None, IsTrue};
+ghost use Rattle.std.specs.Prelude.{if◌then◌else◌};
 ghost use Rattle.omos_base.specs.Fault.{MatchFault};
 ghost use Rattle.omos_model.specs.Names.{is_symbol_name};
 ghost use Rattle.omos_model.specs.ElfFields.{e_shnum, entry_at, header_at, name_of, section_bytes};
 ghost use Rattle.omos_model.specs.ElfFields.{is_section, st_info, symbol_at, symbol_count};
-ghost use Rattle.omos_model.specs.ElfFaults.{entry_count, has_name, is_kept, is_nobits, is_used_rela};
+ghost use Rattle.omos_model.specs.ElfFaults.{entry_count, has_name, is_kept, is_nobits};
+ghost use Rattle.omos_model.specs.ElfFaults.{is_used_rela};
 ghost use Rattle.omos_model.specs.ElfFaults.{object_fault};
 ghost use Rattle.elf_words.specs.Rela.{rela_at};
 ghost use Rattle.elf_words.specs.Shdr.{shdr_at};
 ghost use Rattle.elf_words.specs.Sym.{sym_at};
+ghost use Rattle.elf_object.specs.TablesOf.{AreTables};
 
 use crate::kept::{is_kept, is_nobits};
-use crate::names::name_at;
 use crate::reads::{bytes_of, count_of_sections, section};
-use crate::symbols::symbol;
+use crate::relas::{RELA_SIZE, is_used};
+use crate::symbols::{name, symbol};
 use crate::symtab::Symbols;
 use elf_words::{Record, Rela, Shdr, Sym};
 use std::marker::Model;
@@ -38,6 +41,16 @@ impl<'a> Model for Tables<'a> {
 
     ghost invariant = { λ t.
         AreTables t.file.now t.symbols.count t.symbols.at t.symbols.strings.now };
+}
+
+impl<'a> Tables<'a> {
+    /// The tables of a file that was found to have no fault.
+    pub(crate) fn of(file: &'a [u8], symbols: Symbols<'a>) -> Tables<'a>
+        requires { AreTables file.now symbols.count symbols.at symbols.strings.now }
+        ensures { result ≡ file.now }
+    {
+        Tables { file, symbols }
+    }
 }
 
 impl Tables<'_> {
@@ -110,8 +123,7 @@ impl Tables<'_> {
         ensures name { result.now ≡ name_of self.now k }
         ensures lawful { IsTrue (is_symbol_name result.now) }
     {
-        let symbol = symbol(self.file, self.symbols, k);
-        name_at(self.symbols, symbol.st_name)
+        name(self.file, self.symbols, k)
     }
 
     /// Whether a section has relocations of a kept section.
@@ -119,8 +131,7 @@ impl Tables<'_> {
         requires { i < e_shnum self.now }
         ensures { result ≡ is_used_rela self.now i }
     {
-        let header = section(self.file, i as usize);
-        header.sh_type == 4 && is_kept(self.file, header.sh_info as usize)
+        is_used(self.file, i as usize)
     }
 
     /// How many relocations there are in a section that has those of a kept section.
@@ -129,7 +140,7 @@ impl Tables<'_> {
         requires used { IsTrue (is_used_rela self.now i) }
         ensures { result ≡ entry_count self.now i }
     {
-        (section(self.file, i as usize).sh_size / 24) as u32
+        (section(self.file, i as usize).sh_size / RELA_SIZE) as u32
     }
 
     /// A relocation, by its section and its number in that.

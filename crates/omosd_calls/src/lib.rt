@@ -2,11 +2,11 @@
 //! reads and writes, and answers the status. `main` makes the real ones and calls it.
 #![tactic(auto)]
 
+mod cause;
 mod ending;
-mod image;
+mod lone;
 mod once;
 mod reading;
-mod refusal;
 mod words;
 mod writing;
 

@@ -2,54 +2,52 @@
 
 ghost use Rattle.std.specs.Prelude.{◌≡◌, ◌≤◌, ◌↔◌, ◌∷◌, [], ℕ, List, length, Contains};
 ghost use Rattle.omos_outside.specs.Faults.{Rose};
-ghost use Rattle.omos_model.specs.FirstImage.{FirstImage};
 ghost use Rattle.omosd_calls.specs.Input.{HasRead, ToldInput};
 ghost use Rattle.omosd_calls.specs.Output.{HasWritten, HasWrittenPart, ToldOutput};
-ghost use Rattle.omosd_calls.specs.Once.{Answered, IsOutput, WroteImage};
-ghost use Rattle.omosd_calls.specs.Refusal.{IsRefusal};
+ghost use Rattle.omosd_calls.specs.Lone.{IsImage, IsRefusal};
+ghost use Rattle.omosd_calls.specs.Once.{Answered, IsOutput, WroteLine};
 ghost use Rattle.omosd_calls.specs.Words.{IsOnce};
 
+use crate::cause::{Cause, line_of};
 use crate::ending::Ending;
-use crate::image::frame_of;
+use crate::lone::lone_image;
 use crate::reading::{Unread, read_file};
-use crate::refusal::line_of;
 use crate::words::is_once;
-use crate::writing::{write_all, write_parts};
-use elf_object::{First, first_form};
+use crate::writing::write_all;
+use omos_base::Fault;
 use omos_outside::{Sink, Source};
 use std::alloc::Global;
 
-/// Writes an image, its code from where it stands in the file.
-fn write_image<K: Sink>(alloc: Global, first: &First, sink: &mut K) -> Ending
-    requires few { length first.now.code ≤ 1048576 }
-    ensures image { WroteImage result first.now (K.held sink.old) (K.held sink.new) }
+/// Writes the line that says why a file has no image.
+fn write_line<K: Sink>(alloc: Global, cause: &Cause, sink: &mut K) -> Ending
+    ensures line { WroteLine result cause.now (K.held sink.old) (K.held sink.new) }
     ensures later { K.faults sink.old ≤ K.faults sink.new }
     ensures failed { result ≡ Ending.SinkFailed → Rose (K.faults sink.old) (K.faults sink.new) }
     ensures no_memory { result ≡ Ending.NoMemory → sink.new ≡ sink.old }
 {
-    let code = first.code();
-    let Ok((head, tail)) = frame_of(alloc, code, first.start()) else {
+    let Ok(line) = line_of(alloc, cause) else {
         return Ending::NoMemory;
     };
-    match write_parts(sink, head.as_slice(), code, tail.as_slice()) {
-        Ok(()) => Ending::Done,
+    match write_all(sink, line.as_slice()) {
+        Ok(()) => Ending::Refused,
         Err(_) => Ending::SinkFailed,
     }
 }
 
-/// Writes the image of a file, or why it is refused.
+/// Writes the image of a file, or why it has none.
 fn answer_file<K: Sink>(alloc: Global, file: &[u8], sink: &mut K) -> Ending
     ensures answer { Answered result file.now (K.held sink.old) (K.held sink.new) }
     ensures later { K.faults sink.old ≤ K.faults sink.new }
     ensures failed { result ≡ Ending.SinkFailed → Rose (K.faults sink.old) (K.faults sink.new) }
     ensures no_memory { result ≡ Ending.NoMemory → sink.new ≡ sink.old }
 {
-    match first_form(file) {
-        Ok(first) => write_image(alloc, &first, sink),
-        Err(early) => match write_all(sink, line_of(early)) {
-            Ok(()) => Ending::Refused,
+    match lone_image(alloc, file) {
+        Ok(image) => match write_all(sink, image.as_slice()) {
+            Ok(()) => Ending::Done,
             Err(_) => Ending::SinkFailed,
         },
+        Err(Fault::Refused(cause)) => write_line(alloc, &cause, sink),
+        Err(Fault::NoMemory) => Ending::NoMemory,
     }
 }
 
@@ -73,9 +71,9 @@ pub fn omosd_once<S: Source, K: Sink>(
 
     // The image of the file that was read, and nothing else, was written: under 0 alone.
     ensures done { result ≡ 0 → HasRead (S.told source.old) (S.told source.new)
-        (λ file. HasWritten (K.held sink.old) (K.held sink.new) (FirstImage file)) }
+        (λ file. HasWritten (K.held sink.old) (K.held sink.new) (IsImage file)) }
     ensures done_where { (file output : List ℕ) → IsOnce words.now
-        → ToldInput (S.told source.old) (S.told source.new) file → FirstImage file output
+        → ToldInput (S.told source.old) (S.told source.new) file → IsImage file output
         → ToldOutput (K.held sink.old) (K.held sink.new) output → result ≡ 0 }
 
     // The line of its refusal, and nothing else, was written: under 1 alone.

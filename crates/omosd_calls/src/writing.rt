@@ -1,6 +1,6 @@
 //! Writes bytes to a sink.
 
-ghost use Rattle.std.specs.Prelude.{◌≤◌, ◌++◌, OnErr, MatchResult};
+ghost use Rattle.std.specs.Prelude.{◌≤◌, OnErr, MatchResult};
 ghost use Rattle.std.specs.Io.KnownBytes.{Appends};
 ghost use Rattle.omos_outside.specs.Faults.{Rose};
 ghost use Rattle.omosd_calls.specs.Output.{WrotePart};
@@ -27,26 +27,4 @@ pub(crate) fn write_all<K: Sink>(sink: &mut K, bytes: &[u8]) -> Result<(), SinkF
         }
     }
     Ok(())
-}
-
-/// Writes one slice after another, each from where it stands.
-pub(crate) fn write_parts<K: Sink>(
-    sink: &mut K,
-    head: &[u8],
-    body: &[u8],
-    tail: &[u8],
-) -> Result<(), SinkFailed>
-    ensures wrote { MatchResult result
-        (λ _. Appends (K.held sink.old) (K.held sink.new) ((head.now ++ body.now) ++ tail.now))
-        (λ _. WrotePart (K.held sink.old) (K.held sink.new) ((head.now ++ body.now) ++ tail.now)) }
-    ensures later { K.faults sink.old ≤ K.faults sink.new }
-    ensures failed { OnErr result (Rose (K.faults sink.old) (K.faults sink.new)) }
-{
-    match write_all(sink, head) {
-        Ok(()) => match write_all(sink, body) {
-            Ok(()) => write_all(sink, tail),
-            Err(SinkFailed) => Err(SinkFailed),
-        },
-        Err(SinkFailed) => Err(SinkFailed),
-    }
 }

@@ -1,4 +1,4 @@
-use Rattle.std.proofs.Common.{◌≡◌, ◌<◌, sym, ◌∙◌, arith}
+use Rattle.std.proofs.Common.{◌<◌, sym, ◌∙◌, arith}
 use Rattle.omos_model.specs.ElfFaults.{is_wrong_symbol}
 use Rattle.elf_object.proofs.Runs.{find_here, find_next}
 use Rattle.elf_object.proofs.symbols.first_wrong.Goals as goal

@@ -1,0 +1,4 @@
+pub mod Right
+pub mod Counted
+pub mod Named
+pub mod Whole

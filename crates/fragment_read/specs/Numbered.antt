@@ -1,0 +1,30 @@
+-- Tables by number that are made from an object file.
+use Rattle.std.specs.Prelude.{◌≡◌, ℕ, ◌<◌, ◌≤◌, ◌==◌, ◌||◌, Bool, List, length, slice_index, Option}
+use Rattle.std.specs.Prelude.{Some, None, if◌then◌else◌}
+use Rattle.std.specs.List.{slice_get}
+use Rattle.omos_model.specs.Names.{Name}
+use Rattle.omos_model.specs.ElfFields.{e_shnum, name_of, st_shndx, symbol_count}
+use Rattle.omos_model.specs.ElfFaults.{abs, has_name, is_kept}
+use Rattle.omos_model.specs.FragmentOf.{is_common, section_piece, spot_of}
+use Rattle.omos_model.specs.declared.fragment.Export.{Export}
+
+-- the number of the piece of each section: as many kept sections stand before it
+pub record ArePieceNumbers (file : List ℕ) (numbers : List ℕ) : Type 0 where
+  pub all : length numbers ≡ e_shnum file
+  pub each : (i : ℕ) → i < e_shnum file → slice_index numbers i ≡ section_piece file i
+
+-- the symbol is a number, a common one or in a kept section
+abbrev pub is_placed : List ℕ → ℕ → Bool
+is_placed file k = (st_shndx file k == abs) || is_common file k || is_kept file (st_shndx file k)
+
+abbrev pub export_of : List ℕ → ℕ → Export
+export_of file k = record { name = name_of file k; spot = spot_of file k }
+
+-- the name of a symbol that has one
+abbrev pub name_if : List ℕ → ℕ → Option Name
+name_if file k = if has_name file k then Some (name_of file k) else None
+
+-- the names of the symbols by number; symbol 0 has none
+pub record AreNames (file : List ℕ) (names : List (Option Name)) : Type 0 where
+  pub all : length names ≡ symbol_count file
+  pub each : (k : ℕ) → 1 ≤ k → k < symbol_count file → slice_get names k ≡ Some (name_if file k)

@@ -1,0 +1,60 @@
+//! The names of the symbols, each read once.
+
+ghost use Rattle.std.specs.Prelude.{◌≡◌, ◌<◌, ◌≤◌, None, IfOk, IsTrue};
+ghost use Rattle.omos_model.specs.ElfFields.{name_of, symbol_count};
+ghost use Rattle.omos_model.specs.ElfFaults.{has_name, object_fault};
+ghost use Rattle.fragment_read.specs.Numbered.{AreNames, name_if};
+
+use crate::symbols::has_name;
+use elf_object::Tables;
+use omos_base::{Fault, NoMemory, Row, SymName};
+use omos_model::laws;
+use std::alloc::Global;
+
+/// The name of a symbol that has one.
+fn name_if(alloc: Global, tables: &Tables<'_>, k: u32) -> Result<Option<SymName>, NoMemory>
+    requires right { object_fault tables.now ≡ None }
+    requires counted { 1 ≤ k }
+    requires there { k < symbol_count tables.now }
+    ensures { IfOk result (λ name. name ≡ name_if tables.now k) }
+{
+    if !has_name(tables, k) {
+        return Ok(None);
+    }
+    laws::names_are_tested();
+    match SymName::read(alloc, tables.name(k)) {
+        Ok(name) => Ok(Some(name)),
+        Err(Fault::NoMemory) => Err(NoMemory),
+        Err(Fault::Refused(_)) => unreachable!(),
+    }
+}
+
+/// The name of a symbol that has one, among those of all.
+pub(crate) fn name_at<'a>(tables: &Tables<'_>, names: &'a [Option<SymName>], k: u32) -> &'a SymName
+    requires counted { 1 ≤ k }
+    requires there { k < symbol_count tables.now }
+    requires has { IsTrue (has_name tables.now k) }
+    requires named { AreNames tables.now names.now }
+    ensures { result.now ≡ name_of tables.now k }
+{
+    let Some(name) = &names[k as usize] else {
+        unreachable!()
+    };
+    name
+}
+
+/// By a symbol's number its name, where it has one. Each owns its bytes.
+pub(crate) fn names(alloc: Global, tables: &Tables<'_>) -> Result<Row<Option<SymName>>, NoMemory>
+    requires { object_fault tables.now ≡ None }
+    ensures { IfOk result (λ names. AreNames tables.now names) }
+{
+    let mut names = Row::new(alloc);
+    if tables.symbols() == 0 {
+        return Ok(names);
+    }
+    names.push(None)?;
+    for k in 1..tables.symbols() {
+        names.push(name_if(alloc, tables, k)?)?;
+    }
+    Ok(names)
+}

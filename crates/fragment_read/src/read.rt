@@ -1,0 +1,68 @@
+//! The fragment of an object file.
+
+ghost use Rattle.std.specs.Prelude.{◌≡◌, None, IfOk, Ok, Err};
+ghost use Rattle.omos_base.specs.Fault.{MatchFault};
+ghost use Rattle.omos_model.specs.FragmentOf.{fragment_of, parts_of_file};
+ghost use Rattle.omos_model.specs.FragmentParts.{IsFragment, parts_of};
+ghost use Rattle.omos_model.specs.ElfFaults.{object_fault};
+
+use crate::exports::exports;
+use crate::fixups::fixups;
+use crate::names::names;
+use crate::numbers::{kept_count, piece_numbers};
+use crate::pieces::pieces;
+use elf_object::{Tables, read_tables};
+use omos_base::{Fault, NoMemory, Row};
+use omos_model::{Export, Fixup, Fragment, ObjectFault, Piece, laws};
+use std::alloc::Global;
+
+/// The fragment of three lists that are one.
+fn lawful(
+    alloc: Global,
+    pieces: Row<Piece>,
+    exports: Row<Export>,
+    fixups: Row<Fixup>,
+) -> Result<Fragment, NoMemory>
+    requires { IsFragment (parts_of pieces exports fixups) }
+    ensures { IfOk result (λ f. f ≡ parts_of pieces exports fixups) }
+{
+    match Fragment::of(alloc, pieces, exports, fixups) {
+        Ok(fragment) => Ok(fragment),
+        Err(Fault::NoMemory) => Err(NoMemory),
+        Err(Fault::Refused(_)) => unreachable!(),
+    }
+}
+
+fn parts_of_file(alloc: Global, tables: &Tables<'_>) -> Result<Fragment, NoMemory>
+    requires { object_fault tables.now ≡ None }
+    ensures { IfOk result (λ f. f ≡ parts_of_file tables.now) }
+{
+    let numbers = piece_numbers(alloc, tables)?;
+    let names = names(alloc, tables)?;
+    let pieces = pieces(alloc, tables)?;
+    let first_common = kept_count(tables);
+    let exports = exports(
+        alloc,
+        tables,
+        numbers.as_slice(),
+        names.as_slice(),
+        first_common,
+    )?;
+    let fixups = fixups(alloc, tables, numbers.as_slice(), names.as_slice())?;
+    laws::files_hold_fragments();
+    lawful(alloc, pieces, exports, fixups)
+}
+
+/// The fragment of an object file, or its first fault, O1 to O11.
+///
+/// The bytes of its sections and names are copied, each once. It costs the file's tables, and a
+/// look-up among the exports for each of them.
+pub fn fragment(alloc: Global, file: &[u8]) -> Result<Fragment, Fault<ObjectFault>>
+    ensures { MatchFault result
+        (λ f. fragment_of file.now ≡ Ok f) (λ x. fragment_of file.now ≡ Err x) }
+{
+    match read_tables(alloc, file) {
+        Ok(tables) => Ok(parts_of_file(alloc, &tables)?),
+        Err(fault) => Err(fault),
+    }
+}

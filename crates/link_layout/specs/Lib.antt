@@ -1,0 +1,7 @@
+pub mod ByGroup
+pub mod Pieces
+pub mod Slots
+pub mod Targets
+pub mod References
+pub mod Layout
+pub mod IsLaid
