@@ -178,7 +178,7 @@ body-bytes plan base table leaves new slots same h lawful painted =
     (option_or (slots_byte plan.places base plan.slots (slots_begin plan.parts) (length plan.slots) k)
     (first_byte (placed_in plan.places leaves) k))) (zero_is i))
     ∙ byte-same plan base table leaves slots same h lawful k within
-    ∙ sym (get_or-map (byte_of plan base) (numbers_from 0 n) k 0 d (omega (arith, numbers)) ∙ ap (byte_of plan base) (get_or-numbers 0 n k 0 within ∙ plus k)))
+    ∙ sym (get_or-map (byte_of plan base) (numbers_from 0 n) k 0 d (subst (λ (m : ℕ). k < m) (sym numbers) within) ∙ ap (byte_of plan base) (get_or-numbers 0 n k 0 within ∙ plus k)))
   where
     plus : (k : ℕ) → 0 + k ≡ k
     plus k = omega arith

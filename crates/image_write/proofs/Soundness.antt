@@ -12,7 +12,7 @@ use Rattle.omos_model.specs.declared.mark.MarkRow.{MarkRow}
 use Rattle.omos_model.specs.declared.refusal.Refusal.{Refusal}
 use Rattle.link_model.specs.Laws.{BoundsLaw}
 use Rattle.link_model.specs.Layout.{all_pages, pieces_of, places_of, slots_of}
-use Rattle.link_model.specs.Module.{IsModule, Module, Placing, found, part_with, parts_of_module, placing_of, terms_of_module}
+use Rattle.link_model.specs.Module.{IsModule, plan_of_module, Module, Placing, found, part_with, parts_of_module, placing_of, terms_of_module}
 use Rattle.link_model.specs.Plan.{Plan, no_start, plan_refusal, planned, too_large, unless_refused, unresolved}
 use Rattle.link_model.specs.Program.{Parts, landings_of, object_of}
 use Rattle.image_write.specs.declared.groups.Groups.{Groups}
@@ -39,6 +39,35 @@ first_none (Some x) b h = h
 few_pages : (parts : Parts) → too_large parts ≡ None → all_pages parts ≤ 2047
 few_pages parts h = grind (arith, nat_tests)
 
+-- the layout is that of the program, and has few pages
+abbrev pub program_plan : Module → Plan
+program_plan m = planned (parts_of_module m) (found m.names) (terms_of_module m)
+
+pub record IsPlanned (m : Module) (l : Placing) : Type 0 where
+  pub plan : plan_of_module m ≡ Ok (program_plan m)
+  pub placing : l ≡ placing_of (program_plan m)
+  pub pages : all_pages (parts_of_module m) ≤ 2047
+
+is-planned : (m : Module) (l : Placing) → IsLaid m l → IsPlanned m l
+is-planned m l laid =
+    let parts = parts_of_module m in
+    let split = unrefused (plan_refusal parts (found m.names) m.start) (program_plan m) laid.0 laid.1 in
+    record {
+      plan = laid.1 ∙ ap Ok (sym split.1);
+      placing = laid.2 ∙ ap placing_of (sym split.1);
+      pages =
+          few_pages parts
+          (first_none (too_large parts) (option_or (no_start (found m.names) m.start) (unresolved parts)) split.0);
+    }
+
+pub few-slots : (m : Module) (l : Placing) → IsLaid m l → length l.slots ≤ 2 ^ 20
+few-slots m l laid =
+    let p = is-planned m l laid in
+    let pages = p.pages in
+    let within = slots-inside (parts_of_module m) in
+    let many : length l.slots ≡ length (slots_of (parts_of_module m)) = ap (λ (y : Placing). length y.slots) p.placing in
+    omega arith
+
 -- ---- the module
 
 pub counted : (m : Module) → IsModule m → length m.landings ≡ length m.leaves
@@ -61,10 +90,9 @@ pub sound : (law : BoundsLaw) (x : Groups) (m : Module) (l : Placing) → IsModu
     → AreNear (2 ^ 52) x.begins → All IsLawful m.leaves → IsSound x m l
 sound law x m l ism laid groups near lawful =
     let parts = parts_of_module m in
-    let made = planned parts (found m.names) (terms_of_module m) in
-    let split = unrefused (plan_refusal parts (found m.names) m.start) made laid.0 laid.1 in
-    let placing : l ≡ placing_of made = laid.2 ∙ ap placing_of (sym split.1) in
-    let pages = few_pages parts (first_none (too_large parts) (option_or (no_start (found m.names) m.start) (unresolved parts)) split.0) in
+    let p = is-planned m l laid in
+    let placing = p.placing in
+    let pages = p.pages in
     let count = counted m ism in
     let same = pieces-same m.leaves m.landings count in
     let bounds : All (λ leaf. AreBounded (pieces_in leaf)) m.leaves =
@@ -76,13 +104,13 @@ sound law x m l ism laid groups near lawful =
     let within = slots-inside parts in
     let many : length l.slots ≡ length (slots_of parts) = ap length slots in
     record {
-      plan = laid.1 ∙ ap Ok (sym split.1 ∙ sym (ap (plan_with m) placing));
+      plan = p.plan ∙ ap Ok (sym (ap (plan_with m) placing));
       groups = groups parts same (sym many);
       near = near;
       small = omega arith;
       leaves = (law m ism).leaves;
       count = count;
-      few = omega arith;
+      few = few-slots m l laid;
       lawful = lawful;
       same = same;
       stand = stand;

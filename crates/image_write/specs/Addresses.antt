@@ -1,5 +1,6 @@
 -- Addresses from the places of pieces and the table of slots.
-use Rattle.std.specs.Prelude.{◌≡◌, ℕ, ◌+◌, ◌-◌, ◌*◌, ◌/◌, ◌%◌, ◌^◌, ◌≤◌, List, [], Option, None, slice_get}
+use Rattle.std.specs.Prelude.{◌≡◌, ℕ, ◌+◌, ◌-◌, ◌*◌, ◌/◌, ◌%◌, ◌^◌, ◌≤◌, List, []}
+use Rattle.std.specs.Prelude.{Option, None, slice_get}
 use Rattle.std.specs.Prelude.{slice_index, unwrap_or, if◌then◌else◌}
 use Rattle.std.specs.Map.{lookup}
 use Rattle.std.specs.Option.{option_map}
@@ -37,6 +38,7 @@ pub record IsTable (table : SlotTable) (slots : List Target) (first : ℕ) : Typ
 abbrev pub slots_byte : List (List ℕ) → ℕ → List Target → ℕ → ℕ → ℕ → Option ℕ
 slots_byte places base slots begin count x =
     if covers begin (8 * count) x
-    then option_map (λ target. slice_index (little_bytes 8 (address_in places base target)) ((x - begin) % 8))
+    then option_map
+    (λ target. slice_index (little_bytes 8 (address_in places base target)) ((x - begin) % 8))
     (slice_get slots ((x - begin) / 8))
     else None

@@ -1,5 +1,6 @@
 -- The fields of references, from the places of pieces and the table of slots.
-use Rattle.std.specs.Prelude.{◌≡◌, ℕ, ◌+◌, ◌-◌, ◌<◌, ◌≤◌, List, All, length, map, reverse, get_or, Option, Some, None}
+use Rattle.std.specs.Prelude.{◌≡◌, ℕ, ◌+◌, ◌-◌, ◌<◌, ◌≤◌, List, All, length, map}
+use Rattle.std.specs.Prelude.{reverse, get_or, Option, Some, None}
 use Rattle.std.specs.Prelude.{Result, MatchResult, is_some, slice_index, unwrap_or, if◌then◌else◌}
 use Rattle.std.specs.List.{enumerate_from, find, zip}
 use Rattle.std.specs.Option.{option_map}
@@ -26,7 +27,8 @@ field_place_in places r = place_in places r.leaf r.fixup.piece + r.fixup.offset
 
 -- the references of a leaf
 abbrev pub references_of : ℕ → List Fixup → List Landing → List Reference
-references_of leaf fixups landings = map (reference_of leaf) (enumerate_from 0 (zip fixups landings))
+references_of leaf fixups landings =
+    map (reference_of leaf) (enumerate_from 0 (zip fixups landings))
 
 -- a leaf's field lies in so many bytes
 pub record IsFieldInside (size : ℕ) (places : List (List ℕ)) (leaf : ℕ) (x : Fixup) : Type 0 where
@@ -42,8 +44,8 @@ module _ (places : List (List ℕ)) (table : SlotTable) (base : ℕ) where
   abbrev pub field_in : Reference → Option ℕ
   field_in r =
       let target = target_at r.landing in
-      field_value r.fixup.kind (address_in places base target) r.fixup.addend (base + field_place_in places r)
-      (slot_in table target)
+      field_value r.fixup.kind (address_in places base target) r.fixup.addend
+      (base + field_place_in places r) (slot_in table target)
 
   -- L13 where it doesn't
   abbrev pub overflow_in : Reference → Option Refusal
@@ -51,12 +53,14 @@ module _ (places : List (List ℕ)) (table : SlotTable) (base : ℕ) where
 
   abbrev pub byte_in : ℕ → Reference → ℕ
   byte_in x r =
-      slice_index (little_bytes (width r.fixup.kind) (unwrap_or (field_in r) 0)) (x - field_place_in places r)
+      slice_index (little_bytes (width r.fixup.kind) (unwrap_or (field_in r) 0))
+      (x - field_place_in places r)
 
   -- of the last of these references whose field has a byte there
   abbrev pub last_byte : List Reference → ℕ → Option ℕ
   last_byte refs x =
-      option_map (byte_in x) (find (λ r. covers (field_place_in places r) (width r.fixup.kind) x) (reverse refs))
+      option_map (byte_in x)
+      (find (λ r. covers (field_place_in places r) (width r.fixup.kind) x) (reverse refs))
 
   -- all values fit, and the fields are written
   pub record IsPatched (refs : List Reference) (new old : List ℕ) : Type 0 where

@@ -1,5 +1,6 @@
 -- The header page of groups that stand at given places.
-use Rattle.std.specs.Prelude.{ℕ, ◌+◌, ◌-◌, ◌==◌, not, List, [], ◌∷◌, ◌++◌, length, map, filter, replicate}
+use Rattle.std.specs.Prelude.{ℕ, ◌+◌, ◌-◌, ◌==◌, not, List, [], ◌∷◌, ◌++◌}
+use Rattle.std.specs.Prelude.{length, map, filter, replicate}
 use Rattle.std.specs.List.{flat_map}
 use Rattle.omos_base.specs.Fields.{zeros}
 use Rattle.elf_words.specs.declared.ehdr.Ehdr.{Ehdr}
@@ -35,7 +36,8 @@ all_groups = Code ∷ Consts ∷ Vars ∷ Zeros ∷ []
 
 -- those of the groups that aren't of size 0
 abbrev pub loads_in : Groups → ℕ → List Group → List Phdr
-loads_in groups base gs = map (load_in groups base) (filter (λ g. not (bytes_of groups.sizes g == 0)) gs)
+loads_in groups base gs =
+    map (load_in groups base) (filter (λ g. not (bytes_of groups.sizes g == 0)) gs)
 
 abbrev pub headers_in : Groups → ℕ → List Phdr
 headers_in groups base = loads_in groups base all_groups ++ stack ∷ []
@@ -61,7 +63,8 @@ ehdr_with entry count =
 
 abbrev pub front_in : Groups → ℕ → ℕ → List ℕ
 front_in groups base entry =
-    ehdr_bytes (ehdr_with entry (length (headers_in groups base))) ++ flat_map phdr_bytes (headers_in groups base)
+    ehdr_bytes (ehdr_with entry (length (headers_in groups base)))
+    ++ flat_map phdr_bytes (headers_in groups base)
 
 -- the headers, and zeros up to the page's end
 abbrev pub page_in : Groups → ℕ → ℕ → List ℕ

@@ -1,5 +1,6 @@
 -- The image of a module at a base.
-use Rattle.std.specs.Prelude.{◌≡◌, ℕ, List, Option, Some, Ok, Err, Result, MatchResult, take, drop, unwrap_or}
+use Rattle.std.specs.Prelude.{◌≡◌, ℕ, List, Option, Some, Ok, Err, Result, MatchResult, take, drop}
+use Rattle.std.specs.Prelude.{unwrap_or}
 use Rattle.std.specs.Option.{option_map}
 use Rattle.omos_base.specs.Fault.{MatchFault}
 use Rattle.omos_base.specs.declared.fault.Fault.{Fault}
@@ -15,19 +16,24 @@ use Rattle.image_write.specs.Filled.{IsFilled, refusal_in}
 
 -- the image of the module's plan at the base, or its refusal
 abbrev pub IsImage : Module → ℕ → Result (List ℕ) Refusal → Type 0
-IsImage m base image = (plan : Plan) × (plan_of_module m ≡ Ok plan) × (image_bytes plan base ≡ image)
+IsImage m base image =
+    (plan : Plan) × (plan_of_module m ≡ Ok plan) × (image_bytes plan base ≡ image)
 
 -- the call answers the image, or refuses for the image's reason
 abbrev pub Writes : Module → ℕ → Result (List ℕ) (Fault Refusal) → Type 0
-Writes m base result = MatchFault result (λ bytes. IsImage m base (Ok bytes)) (λ x. IsImage m base (Err x))
+Writes m base result =
+    MatchFault result (λ bytes. IsImage m base (Ok bytes)) (λ x. IsImage m base (Err x))
 
 -- the start's address, or 0 where there is none
 abbrev pub entry_in : List (List ℕ) → ℕ → Option Target → ℕ
 entry_in places base entry = unwrap_or (option_map (address_in places base) entry) 0
 
 -- what stands behind the head is filled, or the first value that doesn't fit is refused
-abbrev pub FillsBehind : ℕ → Plan → ℕ → SlotTable → List Entry → Result (Unit {0}) Refusal → List ℕ → List ℕ → Type 0
+abbrev pub FillsBehind : ℕ → Plan → ℕ → SlotTable → List Entry → Result (Unit {0}) Refusal
+    → List ℕ → List ℕ → Type 0
 FillsBehind head plan base table leaves result new old =
     MatchResult result
-    (λ _. (take head new ≡ take head old) × IsFilled plan base table leaves (drop head new) (drop head old))
+    (λ _.
+    (take head new ≡ take head old)
+    × IsFilled plan base table leaves (drop head new) (drop head old))
     (λ x. refusal_in plan base table leaves ≡ Some x)

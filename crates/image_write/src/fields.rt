@@ -7,7 +7,8 @@ ghost use Rattle.link_model.specs.Field.{field_value};
 ghost use Rattle.link_model.specs.Module.{part_with};
 ghost use Rattle.link_model.specs.Program.{reference_of, references};
 ghost use Rattle.image_write.specs.Addresses.{AreLow, max_place, slot_in};
-ghost use Rattle.image_write.specs.Fields.{AreFieldsInside, IsFieldInside, Patches, field_in, references_of};
+ghost use Rattle.image_write.specs.Fields.{AreFieldsInside, IsFieldInside, Patches};
+ghost use Rattle.image_write.specs.Fields.{field_in, references_of};
 ghost use Rattle.image_write.specs.Slots.{fixups_in};
 
 use crate::addresses::{address_in, place_in};

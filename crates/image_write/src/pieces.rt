@@ -2,7 +2,7 @@
 
 ghost use Rattle.std.specs.Prelude.{◌≡◌, ◌+◌, ◌^◌, ◌≤◌, All, fold, length};
 ghost use Rattle.omos_model.specs.declared.fragment.Group.{Group};
-ghost use Rattle.link_model.specs.Layout.{begin_of, end_of, end_with};
+ghost use Rattle.link_model.specs.Layout.{end_of, end_with};
 ghost use Rattle.image_write.specs.ByGroup.{AreNear, bytes_of};
 ghost use Rattle.image_write.specs.Pieces.{AreBounded, IsBounded, IsLawful, all_pieces, pieces_in};
 
@@ -23,17 +23,15 @@ pub fn pieces_in(leaf: &Shared<Entry>) -> &[Piece]
     }
 }
 
-/// Lays a piece behind those of its group, and says where it begins, counted from the group's begin.
-pub fn lay_piece(ends: &mut ByGroup, piece: &Piece) -> u64
+/// Lays a piece behind those of its group.
+fn lay_piece(ends: &mut ByGroup, piece: &Piece)
     requires bounded { IsBounded piece.now }
     requires room { bytes_of ends.old piece.now.group ≤ 2 ^ 55 }
-    ensures begin { result ≡ begin_of (bytes_of ends.old piece.now.group) piece.now }
     ensures ends { (g : Group) → bytes_of ends.new g ≡ end_with g (bytes_of ends.old g) piece.now }
     ensures near { (g : Group) → bytes_of ends.new g ≤ bytes_of ends.old g + 8392704 }
 {
     let begin = aligned(u64::from(piece.align), ends.get(piece.group));
     ends.set(piece.group, begin + u64::from(piece.size));
-    begin
 }
 
 /// Lays the pieces of a leaf behind those of the leaves before.

@@ -31,13 +31,6 @@ impl Slot {
     {
         Slot { target }
     }
-
-    /// Its target.
-    pub fn target(&self) -> Target
-        ensures { result ≡ self.now }
-    {
-        self.target
-    }
 }
 
 /// Whether two targets are the same.

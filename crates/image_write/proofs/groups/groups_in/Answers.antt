@@ -1,8 +1,12 @@
-use Rattle.std.proofs.Common.{◌∙◌, ap, length, sym}
+use Rattle.std.proofs.Common.{arith, ◌∙◌, ap, length, sym}
 use Rattle.image_write.specs.Pieces.{IsLawful, all_pieces}
-use Rattle.image_write.proofs.Soundness.{sound}
+use Rattle.image_write.proofs.Soundness.{few-slots, sound}
 use Rattle.std.proofs.lemmas.List.Elements.{All-same}
 use Rattle.image_write.proofs.groups.groups_in.Goals as goal
+
+pub groups_of-requires-clause-slots : goal.groups_of-requires-clause-slots
+groups_of-requires-clause-slots c =
+    let few = few-slots c.args.evaluated.now c.args.layout.now c.requires.laid in omega (arith, few, ap length c.slots.ensures)
 
 pub returns : goal.returns
 returns c =
