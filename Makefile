@@ -27,7 +27,7 @@ examples: build
 	@examples/run.sh $(OMOSD)
 
 real: build
-	@cd crates/omos_fragment && rt run -- data/slots.o > out.log 2>&1 || { tail -n 20 out.log; exit 1; }
+	@cd crates/omos_fragment && rt run -- data/twelve.o > out.log 2>&1 || { tail -n 20 out.log; exit 1; }
 	@rm -f crates/omos_fragment/out.log
 	@tests/real.py $(FRAGMENT) $(OMOSD)
 

@@ -44,7 +44,9 @@ def plain(code, align, symbols, relas):
 
 
 def object_of(sections):
-    """An object of these sections: type, flags, bytes or a size, link, info, align, entry size."""
+    """An object of these sections: type, flags, content, link, info, align, entry size.
+
+    The content is bytes, or a size, or an offset and a size where the bytes stand elsewhere."""
     body = b""
     headers = b""
     for sh_type, flags, content, link, info, align, entry in sections:
@@ -52,11 +54,14 @@ def object_of(sections):
             headers += bytes(64)
             continue
         body += bytes(-(64 + len(body)) % 8)
-        size = content if isinstance(content, int) else len(content)
+        if isinstance(content, bytes):
+            offset, size = 64 + len(body), len(content)
+            body += content
+        else:
+            offset, size = content if isinstance(content, tuple) else (64 + len(body), content)
         headers += struct.pack(
-            "<IIQQQQIIQQ", 0, sh_type, flags, 0, 64 + len(body), size, link, info, align, entry
+            "<IIQQQQIIQQ", 0, sh_type, flags, 0, offset, size, link, info, align, entry
         )
-        body += b"" if isinstance(content, int) else content
     body += bytes(-(64 + len(body)) % 8)
     ehdr = b"\x7fELF\x02\x01\x01" + bytes(9) + struct.pack(
         "<HHIQQQIHHHHHH", 1, 62, 1, 0, 0, 64 + len(body), 0, 64, 0, 0, 64, len(sections), 0
@@ -74,6 +79,38 @@ def image(entry, groups, pages):
         head += struct.pack("<IIQQQQQQ", 1, flags, PAGE + begin, at, at, filesz, memsz, PAGE)
     head += struct.pack("<IIQQQQQQ", 0x6474E551, 6, 0, 0, 0, 0, 0, 16)
     return b"".join(p + bytes(-len(p) % PAGE) for p in [head] + pages)
+
+
+def twelve(more=()):
+    """The sections that C compilers commonly write for `int n`, `get` and `step`."""
+    strings = b"\0get\0step\0n\0"
+    symbols = bytes(24) + b"".join(
+        struct.pack("<IBBHQQ", *symbol)
+        for symbol in (
+            (0, 0x03, 0, 1, 0, 0),  # section .text
+            (1, 0x12, 0, 1, 0, 16),  # get
+            (5, 0x12, 0, 1, 16, 32),  # step
+            (10, 0x11, 0, 3, 0, 4),  # n
+        )
+    )
+    code = struct.pack("<QQq", 6, 4 << 32 | 2, -4) + struct.pack("<QQq", 22, 4 << 32 | 2, -8)
+    unwind = struct.pack("<QQq", 32, 1 << 32 | 2, 0) + struct.pack("<QQq", 64, 1 << 32 | 2, 16)
+    return object_of([
+        (0, 0, b"", 0, 0, 0, 0),
+        (1, 6, b"\x90" * 48, 0, 0, 1, 0),  # .text
+        (4, 0x40, code, 10, 1, 8, 24),  # .rela.text
+        (1, 3, b"\1\0\0\0", 0, 0, 4, 0),  # .data
+        (8, 3, 0, 0, 0, 1, 0),  # .bss
+        (1, 0x30, b"\0a compiler\0", 0, 0, 1, 1),  # .comment
+        (1, 0, b"", 0, 0, 1, 0),  # .note.GNU-stack
+        (7, 2, bytes(32), 0, 0, 8, 0),  # .note.gnu.property
+        (0x70000001, 2, bytes(88), 0, 0, 8, 0),  # .eh_frame
+        (4, 0x40, unwind, 10, 8, 8, 24),  # .rela.eh_frame
+        (2, 0, symbols, 11, 2, 8, 24),  # .symtab
+        (3, 0, strings, 0, 0, 1, 0),  # .strtab
+        (3, 0, b"\0", 0, 0, 1, 0),  # .shstrtab
+        *more,
+    ])
 
 
 NOPS = b"\x90" * 10
@@ -138,6 +175,19 @@ FILES = {
     "overlap.image": image(
         BASE, [(5, 0, 16, 16)], [bytes([0, 0, 0, 0, 0x40, 0, 0, 0]) + bytes(8)]
     ),
+    # two sections of 32,768 relocations each, which share their bytes behind the file's end: zeros,
+    # of type NONE, once the file is padded
+    "many.o": object_of([
+        (0, 0, b"", 0, 0, 0, 0),
+        (1, 6, CALL, 0, 0, 16, 0),
+        (4, 0x40, (1024, 32768 * 24), 4, 1, 8, 24),
+        (4, 0x40, (1024, 32768 * 24), 4, 1, 8, 24),
+        (2, 0, bytes(24) + struct.pack("<IBBHQQ", 1, 0x12, 0, 1, 0, 0), 5, 1, 8, 24),
+        (3, 0, b"\0_start\0", 0, 0, 1, 0),
+    ]),
+    # what compilers write, and the same with a section 13 of type GROUP
+    "twelve.o": twelve(),
+    "group.o": twelve([(17, 0, struct.pack("<II", 1, 1), 10, 2, 4, 4)]),
     # no byte is loaded, so there are no pages and no program header but the stack's
     "empty.image": image(BASE, [], []),
     # each group, with alignments; _start stands in the second piece of code, at its offset 1.
