@@ -1,15 +1,14 @@
 #!/usr/bin/env python3
 """Writes the objects of crates/omosd_cases/data that hands wouldn't lay out byte by byte, and the
-images that are wanted of them.
+images that are wanted of them, and the objects of crates/link_cases/data.
 
 Objects follow the System V gABI, chapter 4, and the plain objects of docs/FORMATS.md; an image is
 written from the addresses that the comment beside it works out, not by a linker.
 
-    tests/objects.py [FOLDER]     the folder is crates/omosd_cases/data where none is given
+    tests/objects.py
 """
 
 import struct
-import sys
 from pathlib import Path
 
 PAGE = 4096
@@ -217,11 +216,25 @@ FILES = {
     ),
 }
 
+LINK_FILES = {
+    "start.o": plain(b"\xe9\xfb\xff\xff\xff", 1, [("_start", 0)], []),
+    "lib.o": plain(
+        b"\xc3" + b"\x90" * 7 + b"\xe8\0\0\0\0\xc3\x90\x90", 16,
+        [("malloc", 0), ("grab", 8)], [(9, 4, 1, -4)],
+    ),
+    "new.o": plain(b"\xc3" + b"\x90" * 15, 16, [("malloc", 0)], []),
+    "trace.o": plain(CALL, 16, [("malloc", 0), ("old_malloc", None)], [(1, 4, 2, -4)]),
+    "user.o": FILES["user.o"],
+    "ab.o": plain(b"\xc3\xc3", 1, [("b", 0), ("a", 1)], []),
+    "ba.o": plain(b"\xc3\xc3", 1, [("a", 0), ("b", 1)], []),
+}
+
 
 def main():
-    folder = Path(sys.argv[1] if len(sys.argv) > 1 else "crates/omosd_cases/data")
-    for name, content in FILES.items():
-        (folder / name).write_bytes(content)
+    crates = Path(__file__).resolve().parent.parent / "crates"
+    for crate, files in (("omosd_cases", FILES), ("link_cases", LINK_FILES)):
+        for name, content in files.items():
+            (crates / crate / "data" / name).write_bytes(content)
 
 
 if __name__ == "__main__":
