@@ -1,3 +1,4 @@
 pub mod Counted
 pub mod Operators
 pub mod Meant
+pub mod Walked

@@ -8,3 +8,4 @@ mod counts;
 mod node;
 mod operator;
 mod part;
+mod walk;

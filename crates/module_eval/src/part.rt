@@ -7,6 +7,7 @@ ghost use Rattle.omos_model.specs.declared.refusal.Site.{Site as Place};
 ghost use Rattle.module_table.specs.Stands.{Answers, refusal_at};
 ghost use Rattle.module_eval.specs.Meant.{Means, MeansWhere};
 ghost use Rattle.module_eval.specs.Operators.{op_of};
+ghost use Rattle.module_eval.specs.Walked.{term_with};
 
 use crate::node::twin;
 use crate::operator::{Operator, operate};
@@ -21,6 +22,13 @@ pub enum Part {
     Built(Table),
     /// The first refusal, in post-order, left to right.
     Failed(Refusal),
+}
+
+/// How two modules are put together.
+#[derive(Clone, Copy)]
+pub enum Join {
+    Merge,
+    Override,
 }
 
 /// The refusal of a node.
@@ -74,6 +82,17 @@ pub fn override_by(left: Part, right: Part) -> Result<Part, NoMemory>
     match right {
         Part::Built(right) => Ok(Part::Built(Table::override_by(left, right)?)),
         Part::Failed(refusal) => Ok(Part::Failed(refusal)),
+    }
+}
+
+/// Both modules, joined so.
+pub fn combine(join: Join, site: &Site, left: Part, right: Part) -> Result<Part, NoMemory>
+    ensures { (l r : Term) → Means left l → Means right r
+        → IfOk result (λ part. Means part (term_with join site.now l r)) }
+{
+    match join {
+        Join::Merge => merge(site, left, right),
+        Join::Override => override_by(left, right),
     }
 }
 
