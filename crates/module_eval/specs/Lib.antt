@@ -2,3 +2,4 @@ pub mod Counted
 pub mod Operators
 pub mod Meant
 pub mod Walked
+pub mod Evaluations

@@ -5,7 +5,12 @@
 #![tactic(auto)]
 
 mod counts;
+mod evaluation;
+mod footprint;
 mod node;
 mod operator;
 mod part;
+mod terms;
 mod walk;
+
+pub use evaluation::evaluate;
