@@ -1,3 +1,5 @@
 pub mod Modules
 pub mod Founds
 pub mod Alone
+pub mod Frame
+pub mod Footprints

@@ -1,6 +1,6 @@
 //! Laws of evaluated modules, each the contract of a function that does nothing.
 
-ghost use Rattle.link_model.specs.Laws.{BoundsLaw, OwnPlanLaw};
+ghost use Rattle.link_model.specs.Laws.{BoundsLaw, OwnPlanLaw, FrameLaw, OwnFrameLaw};
 
 /// A module has at most 256 leaves, and at most 524,288 references.
 pub fn modules_are_bounded()
@@ -10,4 +10,11 @@ pub fn modules_are_bounded()
 /// A module's plan is that of its path on the namespace that its footprint lists.
 pub fn modules_have_their_plan()
     ensures { OwnPlanLaw }
+{}
+
+/// A path's expansion, footprint, plan and answers depend on nothing but the entries and stamps
+/// under the paths that it reads.
+pub fn footprints_decide()
+    ensures frame { FrameLaw }
+    ensures own { OwnFrameLaw }
 {}

@@ -16,4 +16,5 @@ mod planned;
 pub use evaluated::{Evaluated, Found};
 pub use layout::Layout;
 pub use linked::Linked;
+pub use made::usual_start;
 pub use planned::Planned;

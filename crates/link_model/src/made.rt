@@ -25,7 +25,7 @@ fn holds_fragment(entry: &Entry)
 }
 
 /// The name of a program's start where no other is given.
-fn usual_start(alloc: Global) -> Result<SymName, NoMemory>
+pub fn usual_start(alloc: Global) -> Result<SymName, NoMemory>
     ensures { IfOk result (λ name. name ≡ start_name) }
 {
     match SymName::read(alloc, b"_start") {

@@ -1,0 +1,122 @@
+-- The walk to a path, by what stands under it.
+use Rattle.std.proofs.Common.{◌≡◌, ℕ, zero, suc, Bool, true, false, List, [], ◌∷◌, ◌++◌, Option, Some, None, Result, Ok, Err}
+use Rattle.std.proofs.Common.{◌-◌, ◌<◌, ◌≤◌, length, length-append, cond, refl, sym, ap, ◌∙◌, arith}
+use Rattle.std.specs.Option.{option_map}
+use Rattle.omos_base.specs.declared.fault.Fault.{Fault}
+use Rattle.omos_base.specs.declared.fault.Fault.TheVariants.{Refused, NoMemory}
+use Rattle.omos_model.specs.FragmentParts.{FragmentParts}
+use Rattle.omos_model.specs.Names.{Name}
+use Rattle.omos_model.specs.NameLists.{is_among}
+use Rattle.omos_model.specs.Namespace.{Space, look_up}
+use Rattle.omos_model.specs.Term.{Term}
+use Rattle.omos_model.specs.Tree.{Tree}
+use Rattle.omos_model.specs.Expansion.{Source, Object, Blueprint, Visited, Visitor, and_then, add_read, begin_path, expand, here, leaf, nested, source, source_of, visit}
+use Rattle.omos_model.specs.declared.entry.Entry.{Entry}
+use Rattle.omos_model.specs.declared.entry.Stamped.{Stamped}
+use Rattle.omos_model.specs.declared.refusal.Refusal.{Refusal}
+use Rattle.omos_model.specs.declared.refusal.Refusal.TheVariants.{NoEntry, Cycle, TooDeep}
+use Rattle.omos_model.specs.declared.visit.Visit.{Visit}
+use Rattle.omos_model.specs.declared.refusal.Site.{Site}
+use Rattle.module_eval.specs.Counted.{Steps, visit_of}
+use Rattle.module_eval.specs.Walked.{Walked, Bars, path_in, tree_in}
+use Rattle.module_eval.specs.declared.counts.Counts.{Counts}
+use Rattle.module_eval.specs.declared.part.Part.{Part}
+
+module _ (ns : Name → Option Source) (above : List Name) (counted : Bool) (at p : Name) (v : Visit) where
+  pub none_at : (room : ℕ) → ns p ≡ None
+      → expand ns room above counted at p v ≡ Err (NoEntry (here at v) p)
+  unfolding expand
+  none_at zero h = rw h refl
+  none_at (suc room) h = rw h refl
+
+  pub object_at : (room : ℕ) (f : FragmentParts) → ns p ≡ Some (Object f)
+      → expand ns room above counted at p v ≡ and_then (begin_path counted at (add_read p v)) (leaf f)
+  unfolding expand
+  object_at zero f h = rw h refl
+  object_at (suc room) f h = rw h refl
+
+  pub cycle_at : (room : ℕ) (x : Tree) → ns p ≡ Some (Blueprint x) → is_among above p ≡ true
+      → expand ns room above counted at p v ≡ Err (Cycle (here at v) p)
+  unfolding expand
+  cycle_at zero x h e = rw (h, e) refl
+  cycle_at (suc room) x h e = rw (h, e) refl
+
+  pub deep_at : (room : ℕ) (x : Tree) → ns p ≡ Some (Blueprint x) → is_among above p ≡ false
+      → room ≡ 0 → expand ns room above counted at p v ≡ Err (TooDeep (here at v) p)
+  unfolding expand
+  deep_at zero x h e z = rw (h, e) refl
+  deep_at (suc room) x h e z = absurd (omega arith)
+
+  pub opened_at : (room left : ℕ) (x : Tree) → ns p ≡ Some (Blueprint x)
+      → is_among above p ≡ false → room ≡ suc left
+      → expand ns room above counted at p v
+      ≡ and_then (begin_path counted at (add_read p v)) (λ s. nested (visit p (expand ns left (above ++ p ∷ []) true p) x))
+  unfolding expand
+  opened_at room left x h e r = rw (r, h, e) refl
+
+-- what the code found
+pub source_at : (ns : Space) (p : Name) (e : Stamped) (x : Entry) → Some e ≡ look_up ns p
+    → e.entry ≡ x → source ns p ≡ Some (source_of x)
+source_at ns p e x found is =
+    sym (ap (option_map (λ (s : Stamped). source_of s.entry)) found)
+    ∙ ap (λ (y : Entry). Some (source_of y)) is
+
+pub source_none : (ns : Space) (p : Name) → None ≡ look_up ns p → source ns p ≡ None
+source_none ns p h = sym (ap (option_map (λ (s : Stamped). source_of s.entry)) h)
+
+-- a refusal on the way is the walk's
+pub err_on_step : {A : Type 0} (f : Fault Refusal) (walk : Visited A) (more : A → Visitor Term)
+    (v w : Counts) → Steps {A = A} (Err f) walk v → Walked (Err f) (and_then walk more) w
+err_on_step (Refused x) walk more v w h = rw h refl
+err_on_step NoMemory walk more v w h = tt
+
+pub err_on_walk : (f : Fault Refusal) (walk : Visited Term) (more : Term → Visitor Term)
+    (v w : Counts) → Walked (Err f) walk v → Walked (Err f) (and_then walk more) w
+err_on_walk (Refused x) walk more v w h = rw h refl
+err_on_walk NoMemory walk more v w h = tt
+
+-- ---- a blueprint
+
+-- it is refused for what bars it
+pub barred : (ns : Name → Option Source) (slice above : List Name) (counted : Bool) (at p : Name)
+    (v : Visit) (t : Tree) (x : Refusal) → slice ≡ above → ns p ≡ Some (Blueprint t)
+    → Bars (Some x) slice at p v.node
+    → expand ns (32 - length above) above counted at p v ≡ Err x
+barred ns slice above counted at p v t x same there h =
+    let k = rw same at h in
+    go (is_among above p) refl k.0 k.1
+  where
+    go : (c : Bool) → is_among above p ≡ c
+        → x ≡ cond c (Cycle (here at v) p) (TooDeep (here at v) p)
+        → (is_among above p ≡ false → 32 ≤ length above)
+        → expand ns (32 - length above) above counted at p v ≡ Err x
+    go true e d far =
+        cycle_at ns above counted at p v (32 - length above) t there e ∙ ap Err (sym d)
+    go false e d far =
+        let deep = far e in
+        deep_at ns above counted at p v (32 - length above) t there e (omega (arith, deep)) ∙ ap Err (sym d)
+
+module _ (ns : Space) (slice above : List Name) (counted : Bool) (at p : Name) (v : Visit) (x : Tree)
+    (there : source ns p ≡ Some (Blueprint x)) (same : slice ≡ above)
+    (free : Bars None slice at p v.node) where
+  pub opened : path_in ns above counted at p v
+      ≡ and_then (begin_path counted at (add_read p v)) (λ s. nested (tree_in ns (above ++ p ∷ []) p x))
+  opened =
+      let h = rw same at free in
+      let few = h.1 in
+      opened_at (source ns) above counted at p v (32 - length above) (32 - length (above ++ p ∷ [])) x there h.0
+      (omega (arith, few, length-append above (p ∷ [])))
+
+  pub refused_inside : (f : Fault Refusal) (s : Site) (w y z : Counts)
+      → begin_path counted at (add_read p v) ≡ Ok (s, visit_of w)
+      → Walked (Err f) (tree_in ns (above ++ p ∷ []) p x (record (visit_of w) { node = 0 })) y
+      → Walked (Err f) (path_in ns above counted at p v) z
+  refused_inside f s w y z begun h =
+      rw (opened, begun)
+      (err_on_walk f (tree_in ns (above ++ p ∷ []) p x (record (visit_of w) { node = 0 })) (λ t u. Ok (t, record u { node = w.node })) y z h)
+
+  pub walked_inside : (part : Part) (s : Site) (w y : Counts)
+      → begin_path counted at (add_read p v) ≡ Ok (s, visit_of w)
+      → Walked (Ok part) (tree_in ns (above ++ p ∷ []) p x (record (visit_of w) { node = 0 })) y
+      → Walked (Ok part) (path_in ns above counted at p v) (record y { node = w.node })
+  walked_inside part s w y begun h = (h.0, rw (opened, begun, h.1) refl, h.2)

@@ -1,0 +1,5 @@
+pub mod Counted
+pub mod Operators
+pub mod Meant
+pub mod Walked
+pub mod Evaluations

@@ -1,0 +1,140 @@
+//! How far a walk through expressions has come.
+
+ghost use Rattle.std.specs.Prelude.{◌≡◌, ◌+◌, ◌≤◌, OnOk};
+ghost use Rattle.omos_model.specs.Expansion.{add_read, begin, begin_path, first_visit, leaf};
+ghost use Rattle.module_eval.specs.Counted.{AreCounted, Steps, StepsToLeaf, visit_of};
+
+use crate::node::{site, twin};
+use indexmap::IndexSet;
+use omos_base::{Fault, NoMemory, PathName};
+use omos_model::{Fragment, Refusal, Site};
+use std::alloc::Global;
+
+const MAX_NODES: u32 = 4_096;
+
+const MAX_LEAVES: u32 = 256;
+
+/// Of exports, and of fixups.
+const MAX_SUM: u32 = 524_288;
+
+/// The counts of an expansion, and the paths that it has read.
+#[derive(Drop)]
+pub struct Counts {
+    /// The number of the next node of the blueprint that is being read.
+    pub node: u32,
+    /// How many nodes were counted, of all blueprints.
+    pub nodes: u32,
+    /// How many leaves there are.
+    pub leaves: u32,
+    /// How many exports the leaves have in all.
+    pub exports: u32,
+    /// How many fixups the leaves have in all.
+    pub fixups: u32,
+    /// The distinct paths read, in order of first reading.
+    pub read: IndexSet<PathName>,
+}
+
+impl Counts {
+    /// Nothing is counted yet.
+    pub fn new(alloc: Global) -> Counts
+        ensures first { visit_of result ≡ first_visit }
+        ensures counted { AreCounted result }
+    {
+        Counts {
+            node: 0,
+            nodes: 0,
+            leaves: 0,
+            exports: 0,
+            fixups: 0,
+            read: IndexSet::new(alloc),
+        }
+    }
+}
+
+/// A node of the blueprint `at` begins.
+pub fn begin_node(at: &PathName, counts: &mut Counts) -> Result<Site, Fault<Refusal>>
+    requires { AreCounted counts.old }
+    ensures walk { Steps result (begin at.now (visit_of counts.old)) counts.new }
+    ensures counted { AreCounted counts.new }
+    ensures more { OnOk result (counts.new.nodes ≡ counts.old.nodes + 1) }
+    ensures least { counts.old.nodes ≤ counts.new.nodes }
+{
+    let here = site(at, counts.node);
+    if counts.nodes >= MAX_NODES {
+        return Err(Fault::Refused(Refusal::TooLarge { site: here }));
+    }
+    counts.node += 1;
+    counts.nodes += 1;
+    Ok(here)
+}
+
+fn begin_if(
+    counted: bool,
+    at: &PathName,
+    counts: &mut Counts,
+) -> Result<Site, Fault<Refusal>>
+    requires { AreCounted counts.old }
+    ensures walk { Steps result (begin_path counted at.now (visit_of counts.old)) counts.new }
+    ensures counted { AreCounted counts.new }
+    ensures least { counts.old.nodes ≤ counts.new.nodes }
+{
+    if counted {
+        begin_node(at, counts)
+    } else {
+        Ok(site(at, counts.node))
+    }
+}
+
+fn note_read(path: &PathName, counts: &mut Counts) -> Result<(), NoMemory>
+    requires { AreCounted counts.old }
+    ensures read { OnOk result (visit_of counts.new ≡ add_read path.now (visit_of counts.old)) }
+    ensures counted { AreCounted counts.new }
+    ensures same { counts.new.nodes ≡ counts.old.nodes }
+{
+    counts.read.insert(path.copy())?;
+    Ok(())
+}
+
+/// The path is read at a node of the blueprint `at`, which is counted but for the requested path.
+pub fn enter(
+    counted: bool,
+    at: &PathName,
+    path: &PathName,
+    counts: &mut Counts,
+) -> Result<Site, Fault<Refusal>>
+    requires { AreCounted counts.old }
+    ensures walk { Steps result
+        (begin_path counted at.now (add_read path.now (visit_of counts.old))) counts.new }
+    ensures counted { AreCounted counts.new }
+    ensures least { counts.old.nodes ≤ counts.new.nodes }
+{
+    note_read(path, counts)?;
+    begin_if(counted, at, counts)
+}
+
+/// The next leaf's number.
+pub fn count_leaf(
+    site: &Site,
+    fragment: &Fragment,
+    counts: &mut Counts,
+) -> Result<u32, Fault<Refusal>>
+    requires { AreCounted counts.old }
+    ensures walk { StepsToLeaf result site.now fragment.now
+        (leaf fragment.now site.now (visit_of counts.old)) counts.new }
+    ensures counted { AreCounted counts.new }
+    ensures same { counts.new.nodes ≡ counts.old.nodes }
+{
+    let exports = fragment.exports().len();
+    let fixups = fragment.fixups().len();
+    if counts.leaves >= MAX_LEAVES
+        || exports > (MAX_SUM - counts.exports) as usize
+        || fixups > (MAX_SUM - counts.fixups) as usize
+    {
+        return Err(Fault::Refused(Refusal::TooLarge { site: twin(site) }));
+    }
+    let number = counts.leaves;
+    counts.leaves += 1;
+    counts.exports += exports as u32;
+    counts.fixups += fixups as u32;
+    Ok(number)
+}

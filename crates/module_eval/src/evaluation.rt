@@ -1,0 +1,85 @@
+//! The evaluation of a path.
+
+ghost use Rattle.std.specs.Prelude.{◌≡◌, IfOk, Some};
+ghost use Rattle.omos_base.specs.Fault.{MatchFault};
+ghost use Rattle.omos_model.specs.Expansion.{expansion, first_visit};
+ghost use Rattle.link_model.specs.Module.{IsModule};
+ghost use Rattle.module_eval.specs.Counted.{AreCounted, visit_of};
+ghost use Rattle.module_eval.specs.Evaluations.{IsBuiltOn, IsEvaluatedOn, refusal_of};
+ghost use Rattle.module_eval.specs.Walked.{Walked};
+
+use crate::counts::Counts;
+use crate::footprint::entries_of;
+use crate::part::Part;
+use crate::terms::{self, Terms};
+use crate::walk::visit_path;
+use link_model::Evaluated;
+use module_table::Table;
+use name_tree::Snap;
+use omos_base::{Fault, NoMemory, PathName};
+use omos_model::Refusal;
+use sqlite_items::Items;
+use std::alloc::Global;
+
+/// Goes to the requested path, which is no node that is counted.
+fn expand(
+    alloc: Global,
+    snap: &Snap,
+    path: &PathName,
+    counts: &mut Counts,
+) -> Result<Part, Fault<Refusal>>
+    requires first { visit_of counts.old ≡ first_visit }
+    requires counted { AreCounted counts.old }
+    ensures { Walked result (expansion snap.now path.now) counts.new }
+{
+    let mut above = Items::new(alloc);
+    visit_path(snap, &mut above, false, path, path, counts)
+}
+
+/// The module of a table, on the namespace that it was built on.
+fn finish(
+    alloc: Global,
+    snap: &Snap,
+    path: &PathName,
+    table: &Table,
+    read: &[PathName],
+) -> Result<Evaluated, NoMemory>
+    requires { IsBuiltOn snap.now path.now table.now read.now }
+    ensures { IfOk result (IsEvaluatedOn snap.now path.now) }
+{
+    let Some(own) = snap.get(path) else {
+        unreachable!()
+    };
+    let terms = terms::of_entry(alloc, own.entry.get())?;
+    let entries = entries_of(alloc, snap, read)?;
+    let Terms { start, lo, hi } = terms;
+    let module = Evaluated::of_table(alloc, path.copy(), table, entries, start, lo, hi)?;
+    // What the module keeps.
+    let _path = module.path();
+    Ok(module)
+}
+
+/// The evaluation of a path on a version of the namespace, or its first refusal: L1 to L4 come
+/// before any of L5 to L8, and these in post-order, left to right.
+///
+/// It reads each path once for each node that names it, and applies each operator once, to tables
+/// that are moved; no object is copied. Its calls go as deep as the blueprints nest: at most 32 of
+/// them, of at most 64 parentheses each, with three calls at each.
+pub fn evaluate(
+    alloc: Global,
+    snap: &Snap,
+    path: &PathName,
+) -> Result<Evaluated, Fault<Refusal>>
+    ensures { MatchFault result
+        (IsEvaluatedOn snap.now path.now)
+        (λ x. refusal_of (expansion snap.now path.now) ≡ Some x) }
+{
+    let mut counts = Counts::new(alloc);
+    match expand(alloc, snap, path, &mut counts) {
+        Ok(Part::Built(table)) => {
+            Ok(finish(alloc, snap, path, &table, counts.read.as_slice())?)
+        }
+        Ok(Part::Failed(refusal)) => Err(Fault::Refused(refusal)),
+        Err(fault) => Err(fault),
+    }
+}

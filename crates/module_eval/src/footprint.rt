@@ -1,0 +1,48 @@
+//! The entries of the paths that were read.
+
+ghost use Rattle.std.specs.Prelude.{◌≡◌, [], ◌∷◌, ◌++◌, IfOk, OnOk};
+ghost use Rattle.std.specs.List.{filter_map};
+ghost use Rattle.omos_model.specs.Namespace.{look_up};
+
+use name_tree::Snap;
+use omos_base::{NoMemory, PathName, Row};
+use omos_model::Stamped;
+use std::alloc::Global;
+
+/// A second owner of the entry, with its path and stamp.
+fn share(stamped: &Stamped) -> Result<Stamped, NoMemory>
+    ensures { IfOk result (λ s. s ≡ stamped.now) }
+{
+    Ok(Stamped {
+        path: stamped.path.copy(),
+        stamp: stamped.stamp,
+        entry: stamped.entry.twin()?,
+    })
+}
+
+/// Appends the entry of the path, if it has one.
+fn add(entries: &mut Row<Stamped>, snap: &Snap, path: &PathName) -> Result<(), NoMemory>
+    ensures { OnOk result
+        (entries.new ≡ entries.old ++ filter_map (look_up snap.now) (path.now ∷ [])) }
+{
+    let Some(stamped) = snap.get(path) else {
+        return Ok(());
+    };
+    entries.push(share(stamped)?)?;
+    Ok(())
+}
+
+/// The entries of the paths, in their order. They are shared and not copied.
+pub fn entries_of(
+    alloc: Global,
+    snap: &Snap,
+    paths: &[PathName],
+) -> Result<Row<Stamped>, NoMemory>
+    ensures { IfOk result (λ entries. entries ≡ filter_map (look_up snap.now) paths.now) }
+{
+    let mut entries = Row::new(alloc);
+    for path in paths {
+        add(&mut entries, snap, path)?;
+    }
+    Ok(entries)
+}

@@ -1,0 +1,16 @@
+//! The evaluation of a path on a version of the namespace: its expansion, and the table of the term
+//! that it stands for.
+//!
+//! Nothing here knows how an operator works on a table, and nothing lays out or writes an image.
+#![tactic(auto)]
+
+mod counts;
+mod evaluation;
+mod footprint;
+mod node;
+mod operator;
+mod part;
+mod terms;
+mod walk;
+
+pub use evaluation::evaluate;

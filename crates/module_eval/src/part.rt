@@ -1,0 +1,108 @@
+//! What is known of a part of a term: its table, or why one of its operators is refused.
+
+ghost use Rattle.std.specs.Prelude.{◌≡◌, IfOk, Option};
+ghost use Rattle.omos_model.specs.Term.{Term, Merge, Override, Apply};
+ghost use Rattle.omos_model.specs.declared.refusal.Refusal.{Refusal as Cause};
+ghost use Rattle.omos_model.specs.declared.refusal.Site.{Site as Place};
+ghost use Rattle.module_table.specs.Stands.{Answers, refusal_at};
+ghost use Rattle.module_eval.specs.Meant.{Means, MeansWhere};
+ghost use Rattle.module_eval.specs.Operators.{op_of};
+ghost use Rattle.module_eval.specs.Walked.{term_with};
+
+use crate::node::twin;
+use crate::operator::{Operator, operate};
+use module_table::{Table, TableFault};
+use omos_base::{Fault, NoMemory};
+use omos_model::{Refusal, Site};
+
+/// A part of a term, all of whose operators were applied up to the first that is refused.
+#[derive(Drop)]
+pub enum Part {
+    /// No operator is refused.
+    Built(Table),
+    /// The first refusal, in post-order, left to right.
+    Failed(Refusal),
+}
+
+/// How two modules are put together.
+#[derive(Clone, Copy)]
+pub enum Join {
+    Merge,
+    Override,
+}
+
+/// The refusal of a node.
+fn refusal(site: Site, fault: TableFault) -> Refusal
+    ensures { result ≡ refusal_at site fault }
+{
+    match fault {
+        TableFault::Conflict(name) => Refusal::Conflict { site, name },
+        TableFault::NoName(name) => Refusal::NoName { site, name },
+        TableFault::NoDefinition(name) => Refusal::NoDefinition { site, name },
+        TableFault::Taken(name) => Refusal::Taken { site, name },
+    }
+}
+
+/// What a node's operator answered, as a part.
+fn answered(site: &Site, answer: Result<Table, Fault<TableFault>>) -> Result<Part, NoMemory>
+    ensures { (t : Term) (refused : Option Cause) → Answers answer site.now t refused
+        → IfOk result (λ part. MeansWhere part t refused) }
+{
+    match answer {
+        Ok(table) => Ok(Part::Built(table)),
+        Err(Fault::Refused(fault)) => Ok(Part::Failed(refusal(twin(site), fault))),
+        Err(Fault::NoMemory) => Err(NoMemory),
+    }
+}
+
+/// Both modules together.
+pub fn merge(site: &Site, left: Part, right: Part) -> Result<Part, NoMemory>
+    ensures { (l r : Term) → Means left l → Means right r
+        → IfOk result (λ part. Means part (Merge site.now l r)) }
+{
+    let left = match left {
+        Part::Built(table) => table,
+        Part::Failed(refusal) => return Ok(Part::Failed(refusal)),
+    };
+    match right {
+        Part::Built(right) => answered(site, Table::merge(left, right)),
+        Part::Failed(refusal) => Ok(Part::Failed(refusal)),
+    }
+}
+
+/// Both modules, where the right one's definitions win.
+pub fn override_by(left: Part, right: Part) -> Result<Part, NoMemory>
+    ensures { (s : Place) (l r : Term) → Means left l → Means right r
+        → IfOk result (λ part. Means part (Override s l r)) }
+{
+    let left = match left {
+        Part::Built(table) => table,
+        Part::Failed(refusal) => return Ok(Part::Failed(refusal)),
+    };
+    match right {
+        Part::Built(right) => Ok(Part::Built(Table::override_by(left, right)?)),
+        Part::Failed(refusal) => Ok(Part::Failed(refusal)),
+    }
+}
+
+/// Both modules, joined so.
+pub fn combine(join: Join, site: &Site, left: Part, right: Part) -> Result<Part, NoMemory>
+    ensures { (l r : Term) → Means left l → Means right r
+        → IfOk result (λ part. Means part (term_with join site.now l r)) }
+{
+    match join {
+        Join::Merge => merge(site, left, right),
+        Join::Override => override_by(left, right),
+    }
+}
+
+/// The module under an operator.
+pub fn apply(site: &Site, operator: Operator<'_>, part: Part) -> Result<Part, NoMemory>
+    ensures { (t : Term) → Means part t
+        → IfOk result (λ p. Means p (Apply site.now (op_of operator.entry) t)) }
+{
+    match part {
+        Part::Built(table) => answered(site, operate(operator, table)),
+        Part::Failed(refusal) => Ok(Part::Failed(refusal)),
+    }
+}

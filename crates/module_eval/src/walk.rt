@@ -1,0 +1,317 @@
+//! The walk through the expressions of blueprints, from left to right, outer before inner.
+
+ghost use Rattle.std.specs.Prelude.{◌≡◌, ◌+◌, ◌-◌, ◌<◌, ◌≤◌, [], ◌∷◌, true, length, map, IsTrue, Ok, OnOk};
+ghost use Rattle.std.specs.Prelude.{Some};
+ghost use Rattle.omos_model.specs.Expansion.{Blueprint, add_read, and_then, begin_path, here, leaf};
+ghost use Rattle.omos_model.specs.Expansion.{source};
+ghost use Rattle.omos_model.specs.FragmentParts.{FragmentParts};
+ghost use Rattle.omos_model.specs.ImageParts.{is_formed};
+ghost use Rattle.omos_model.specs.NameLists.{is_among};
+ghost use Rattle.omos_model.specs.Term.{Term};
+ghost use Rattle.omos_model.specs.Tree.{Apply, Tree, merge_of, tree_of};
+ghost use Rattle.omos_model.specs.declared.visit.Visit.{Visit};
+ghost use Rattle.module_table.specs.Stands.{IsObject};
+ghost use Rattle.module_eval.specs.Counted.{AreCounted, visit_of};
+ghost use Rattle.module_eval.specs.Meant.{Means};
+ghost use Rattle.module_eval.specs.Operators.{op_of};
+ghost use Rattle.module_eval.specs.Walked.{Bars, Walked, are_formed, path_in, tree_in, tree_with};
+ghost use Rattle.module_eval.specs.Walked.{with_operands};
+
+use crate::counts::{Counts, begin_node, count_leaf, enter};
+use crate::node::site;
+use crate::operator::Operator;
+use crate::part::{self, Join, Part};
+use module_table::Table;
+use name_tree::Snap;
+use omos_base::{Fault, PathName, Shared};
+use omos_model::{Entry, Expr, Image, Refusal, Site};
+use sqlite_items::Items;
+
+const MAX_BLUEPRINTS: usize = 32;
+
+fn is_among(paths: &[PathName], path: &PathName) -> bool
+    ensures { result ≡ is_among paths.now path.now }
+{
+    paths.iter().any(|other| *path == *other)
+}
+
+/// Why the blueprint may not be opened: it is open already, or 32 others are.
+fn bar(above: &[PathName], at: &PathName, path: &PathName, node: u32) -> Option<Refusal>
+    ensures { Bars result above.now at.now path.now node }
+{
+    if is_among(above, path) {
+        return Some(Refusal::Cycle {
+            site: site(at, node),
+            path: path.copy(),
+        });
+    }
+    if above.len() >= MAX_BLUEPRINTS {
+        return Some(Refusal::TooDeep {
+            site: site(at, node),
+            path: path.copy(),
+        });
+    }
+    None
+}
+
+/// The operands of a merge, of which there are at least two.
+fn operands_of(operands: &Items<Expr>) -> &[Expr]
+    requires { IsTrue (is_formed (Expr.Merge operands.now)) }
+    ensures operands { result.now ≡ operands.now }
+    ensures two { 2 ≤ length result.now }
+    ensures formed { IsTrue (are_formed result.now) }
+{
+    operands.as_slice()
+}
+
+/// The object of a path as a leaf.
+fn visit_object(
+    counted: bool,
+    at: &PathName,
+    path: &PathName,
+    entry: &Shared<Entry>,
+    counts: &mut Counts,
+) -> Result<Part, Fault<Refusal>>
+    requires object { IsObject entry.now }
+    requires counted { AreCounted counts.old }
+    ensures walk { (f : FragmentParts) → entry.now ≡ Entry.Object f → Walked result
+        (and_then (begin_path counted at.now (add_read path.now (visit_of counts.old))) (leaf f))
+        counts.new }
+    ensures counted { AreCounted counts.new }
+    ensures least { counts.old.nodes ≤ counts.new.nodes }
+{
+    let Entry::Object(fragment) = entry.get() else {
+        unreachable!()
+    };
+    let site = enter(counted, at, path, counts)?;
+    let number = count_leaf(&site, fragment, counts)?;
+    let alloc = *counts.read.allocator();
+    let table = Table::leaf(alloc, number, entry.twin()?)?;
+    Ok(Part::Built(table))
+}
+
+/// Goes to a path at a node of the blueprint `at`, inside the blueprints `above`.
+///
+/// The functions that call one another here go at most 32 blueprints deep, of at most 64
+/// parentheses each, and four calls at each.
+#[cycle(visits)]
+pub fn visit_path(
+    snap: &Snap,
+    above: &mut Items<PathName>,
+    counted: bool,
+    at: &PathName,
+    path: &PathName,
+    counts: &mut Counts,
+) -> Result<Part, Fault<Refusal>>
+    requires counted { AreCounted counts.old }
+    requires room { length above.old ≤ 32 }
+    ensures walk { Walked result
+        (path_in snap.now above.old counted at.now path.now (visit_of counts.old)) counts.new }
+    ensures counted { AreCounted counts.new }
+    ensures above { OnOk result (above.new ≡ above.old) }
+    ensures least { counts.old.nodes ≤ counts.new.nodes }
+{
+    let Some(found) = snap.get(path) else {
+        return Err(Fault::Refused(Refusal::NoEntry {
+            site: site(at, counts.node),
+            path: path.copy(),
+        }));
+    };
+    match found.entry.get() {
+        Entry::Object(_) => visit_object(counted, at, path, &found.entry, counts),
+        Entry::Blueprint(image) => {
+            visit_blueprint(snap, above, counted, at, path, image, counts)
+        }
+    }
+}
+
+/// Opens the blueprint of a path and goes through its expression.
+#[cycle(visits)]
+fn visit_blueprint(
+    snap: &Snap,
+    above: &mut Items<PathName>,
+    counted: bool,
+    at: &PathName,
+    path: &PathName,
+    image: &Image,
+    counts: &mut Counts,
+) -> Result<Part, Fault<Refusal>>
+    requires counted { AreCounted counts.old }
+    requires room { length above.old ≤ 32 }
+    requires there { source snap.now path.now ≡ Some (Blueprint (tree_of image.now.body)) }
+    ensures walk { Walked result
+        (path_in snap.now above.old counted at.now path.now (visit_of counts.old)) counts.new }
+    ensures counted { AreCounted counts.new }
+    ensures above { OnOk result (above.new ≡ above.old) }
+    ensures least { counts.old.nodes ≤ counts.new.nodes }
+{
+    if let Some(refusal) = bar(above.as_slice(), at, path, counts.node) {
+        return Err(Fault::Refused(refusal));
+    }
+    enter(counted, at, path, counts)?;
+    above.push(path.copy())?;
+    let node = counts.node;
+    counts.node = 0;
+    let part = visit_expr(snap, above, path, image.body(), counts)?;
+    counts.node = node;
+    above.pop();
+    Ok(part)
+}
+
+/// Goes through an expression of the blueprint `at`.
+#[cycle(visits)]
+fn visit_expr(
+    snap: &Snap,
+    above: &mut Items<PathName>,
+    at: &PathName,
+    expr: &Expr,
+    counts: &mut Counts,
+) -> Result<Part, Fault<Refusal>>
+    requires counted { AreCounted counts.old }
+    requires room { length above.old ≤ 32 }
+    requires formed { IsTrue (is_formed expr.now) }
+    ensures walk { Walked result
+        (tree_in snap.now above.old at.now (tree_of expr.now) (visit_of counts.old)) counts.new }
+    ensures counted { AreCounted counts.new }
+    ensures above { OnOk result (above.new ≡ above.old) }
+    ensures least { counts.old.nodes ≤ counts.new.nodes }
+{
+    match expr {
+        Expr::Path(path) => visit_path(snap, above, true, at, path, counts),
+        Expr::Merge(operands) => visit_operands(snap, above, at, operands_of(operands), counts),
+        Expr::Override(left, right) => {
+            visit_two(snap, above, at, Join::Override, left.get(), right.get(), counts)
+        }
+        Expr::Rename { from, to, body } => {
+            let operator = Operator::Rename(from, to);
+            visit_under(snap, above, at, operator, body.get(), counts)
+        }
+        Expr::Restrict { name, body } => {
+            visit_under(snap, above, at, Operator::Restrict(name), body.get(), counts)
+        }
+        Expr::Freeze { name, body } => {
+            visit_under(snap, above, at, Operator::Freeze(name), body.get(), counts)
+        }
+        Expr::Hide { name, body } => {
+            visit_under(snap, above, at, Operator::Hide(name), body.get(), counts)
+        }
+        Expr::Show { names, body } => {
+            let operator = Operator::Show(names.as_slice());
+            visit_under(snap, above, at, operator, body.get(), counts)
+        }
+        Expr::CopyAs { from, to, body } => {
+            let operator = Operator::CopyAs(from, to);
+            visit_under(snap, above, at, operator, body.get(), counts)
+        }
+    }
+}
+
+/// Goes through an operator's module.
+#[cycle(visits)]
+fn visit_under(
+    snap: &Snap,
+    above: &mut Items<PathName>,
+    at: &PathName,
+    operator: Operator<'_>,
+    body: &Expr,
+    counts: &mut Counts,
+) -> Result<Part, Fault<Refusal>>
+    requires counted { AreCounted counts.old }
+    requires room { length above.old ≤ 32 }
+    requires formed { IsTrue (is_formed body.now) }
+    ensures walk { Walked result (tree_in snap.now above.old at.now
+        (Apply (op_of operator.entry) (tree_of body.now)) (visit_of counts.old)) counts.new }
+    ensures counted { AreCounted counts.new }
+    ensures above { OnOk result (above.new ≡ above.old) }
+    ensures least { counts.old.nodes ≤ counts.new.nodes }
+{
+    let site = begin_node(at, counts)?;
+    let part = visit_expr(snap, above, at, body, counts)?;
+    Ok(part::apply(&site, operator, part)?)
+}
+
+/// Goes through two modules that are joined.
+#[cycle(visits)]
+fn visit_two(
+    snap: &Snap,
+    above: &mut Items<PathName>,
+    at: &PathName,
+    join: Join,
+    left: &Expr,
+    right: &Expr,
+    counts: &mut Counts,
+) -> Result<Part, Fault<Refusal>>
+    requires counted { AreCounted counts.old }
+    requires room { length above.old ≤ 32 }
+    requires formed_left { IsTrue (is_formed left.now) }
+    requires formed_right { IsTrue (is_formed right.now) }
+    ensures walk { Walked result (tree_in snap.now above.old at.now
+        (tree_with join (tree_of left.now) (tree_of right.now)) (visit_of counts.old)) counts.new }
+    ensures counted { AreCounted counts.new }
+    ensures above { OnOk result (above.new ≡ above.old) }
+    ensures more { OnOk result (counts.old.nodes + 1 ≤ counts.new.nodes) }
+    ensures least { counts.old.nodes ≤ counts.new.nodes }
+{
+    let site = begin_node(at, counts)?;
+    let left = visit_expr(snap, above, at, left, counts)?;
+    let right = visit_expr(snap, above, at, right, counts)?;
+    Ok(part::combine(join, &site, left, right)?)
+}
+
+/// Goes through the operands of a merge, of which there are at least two.
+#[cycle(visits)]
+fn visit_operands(
+    snap: &Snap,
+    above: &mut Items<PathName>,
+    at: &PathName,
+    operands: &[Expr],
+    counts: &mut Counts,
+) -> Result<Part, Fault<Refusal>>
+    requires counted { AreCounted counts.old }
+    requires room { length above.old ≤ 32 }
+    requires two { 2 ≤ length operands.now }
+    requires formed { IsTrue (are_formed operands.now) }
+    ensures walk { Walked result (tree_in snap.now above.old at.now
+        (merge_of (map tree_of operands.now)) (visit_of counts.old)) counts.new }
+    ensures counted { AreCounted counts.new }
+    ensures above { OnOk result (above.new ≡ above.old) }
+    ensures least { counts.old.nodes ≤ counts.new.nodes }
+{
+    let [first, second, rest @ ..] = operands else {
+        unreachable!()
+    };
+    let here = site(at, counts.node);
+    let two = visit_two(snap, above, at, Join::Merge, first, second, counts)?;
+    visit_more(snap, above, at, &here, two, rest, counts)
+}
+
+/// Goes through further operands of the merge at `site`, of which `left` is what stands to the
+/// left.
+#[cycle(visits)]
+fn visit_more(
+    snap: &Snap,
+    above: &mut Items<PathName>,
+    at: &PathName,
+    site: &Site,
+    left: Part,
+    operands: &[Expr],
+    counts: &mut Counts,
+) -> Result<Part, Fault<Refusal>>
+    requires counted { AreCounted counts.old }
+    requires room { length above.old ≤ 32 }
+    requires formed { IsTrue (are_formed operands.now) }
+    ensures walk { (x : Tree) (v : Visit) (t : Term) → site.now ≡ here at.now v
+        → tree_in snap.now above.old at.now x v ≡ Ok (t, visit_of counts.old) → Means left t
+        → Walked result
+            (tree_in snap.now above.old at.now (with_operands x operands.now) v) counts.new }
+    ensures counted { AreCounted counts.new }
+    ensures above { OnOk result (above.new ≡ above.old) }
+    ensures least { counts.old.nodes ≤ counts.new.nodes }
+{
+    let mut left = left;
+    'operands: for operand in operands {
+        let right = visit_expr(snap, above, at, operand, counts)?;
+        left = part::merge(site, left, right)?;
+    }
+    Ok(left)
+}
