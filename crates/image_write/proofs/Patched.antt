@@ -24,7 +24,7 @@ use Rattle.link_model.specs.Program.{Part, Reference, reference_of, references_i
 use Rattle.image_write.specs.declared.slots.SlotTable.{SlotTable}
 use Rattle.image_write.specs.Fields.{IsPatched, byte_in, field_in, field_place_in, last_byte, overflow_in, references_of}
 use Rattle.image_write.specs.Painted.{Painted, run_at}
-use Rattle.image_write.specs.Slots.{fixups_in}
+use Rattle.link_layout.specs.Slots.{fixups_in}
 use Rattle.image_write.proofs.Painting.{either, painted-as, painted-run, painted-then}
 
 -- ---- the first refusal of some references

@@ -10,7 +10,7 @@ use Rattle.omos_model.specs.declared.mark.Landing.{Landing}
 use Rattle.link_model.specs.Layout.{aligned, begin_of, end_of, end_with, pieces_of, place_of, places_behind, places_from, same_group}
 use Rattle.link_model.specs.Module.{part_with}
 use Rattle.link_model.specs.Program.{Parts}
-use Rattle.image_write.specs.Pieces.{AreBounded, IsBounded, all_pieces, pieces_in}
+use Rattle.link_layout.specs.Pieces.{AreBounded, IsBounded, all_pieces, pieces_in}
 use Rattle.image_write.specs.Standing.{LeafStands, LeavesStand, Stands}
 
 aligned-above : (align offset : ℕ) → 1 ≤ align → offset ≤ aligned align offset

@@ -9,11 +9,10 @@ ghost use Rattle.link_model.specs.Program.{reference_of, references};
 ghost use Rattle.image_write.specs.Addresses.{AreLow, max_place, slot_in};
 ghost use Rattle.image_write.specs.Fields.{AreFieldsInside, IsFieldInside, Patches};
 ghost use Rattle.image_write.specs.Fields.{field_in, references_of};
-ghost use Rattle.image_write.specs.Slots.{fixups_in};
 
 use crate::addresses::{address_in, place_in};
-use crate::slot::{is_got, target_at};
 use crate::slots::SlotTable;
+use link_layout::{fixups_in, is_got, target_at};
 use omos_base::{Row, Shared};
 use omos_model::{Entry, Fixup, Kind, Landing, Refusal, Target};
 
@@ -23,17 +22,6 @@ pub struct Ground<'a> {
     pub places: &'a [Row<u64>],
     pub table: &'a SlotTable,
     pub base: u64,
-}
-
-/// The fixups of a leaf. A leaf is an object; a blueprint would have none.
-fn fixups_in(leaf: &Shared<Entry>) -> &[Fixup]
-    ensures fixups { result.now ≡ fixups_in leaf.now }
-    ensures few { length result.now ≤ max_entries }
-{
-    match leaf.get() {
-        Entry::Object(fragment) => fragment.fixups(),
-        Entry::Blueprint(_) => &[],
-    }
 }
 
 /// The address of the target's slot, for a kind that asks for it.
