@@ -40,6 +40,7 @@ impl SlotTable {
     }
 
     /// The address of a target's slot: one look-up.
+    #[inline(never)]
     pub fn address(&self, target: Target) -> u64
         ensures { result ≡ slot_in self.now target }
     {
