@@ -23,6 +23,7 @@ use Rattle.link_model.specs.Layout.{target_at}
 use Rattle.link_model.specs.Module.{part_with}
 use Rattle.link_model.specs.Plan.{first_in}
 use Rattle.link_model.specs.Program.{Part, Reference, reference_of, references_in}
+use Rattle.link_layout.proofs.Parts.{first_in-append}
 use Rattle.image_write.specs.declared.slots.SlotTable.{SlotTable}
 use Rattle.image_write.specs.Addresses.{address_in, slot_in}
 use Rattle.image_write.specs.Fields.{IsPatched, byte_in, field_in, field_place_in, last_byte, overflow_in, references_of}
@@ -31,14 +32,6 @@ use Rattle.link_layout.specs.Slots.{fixups_in}
 use Rattle.image_write.proofs.Painting.{either, painted-as, painted-run, painted-then}
 
 -- ---- the first refusal of some references
-
-pub first_in-append : {X : Type 0} (f : X → Option Refusal) (xs ys : List X)
-    → first_in f (xs ++ ys) ≡ option_or (first_in f xs) (first_in f ys)
-first_in-append f [] ys = refl
-first_in-append f (x ∷ xs) ys = ap (option_or (f x)) (first_in-append f xs ys) ∙ grouped (f x) (first_in f xs) (first_in f ys) where
-  grouped : (a b c : Option Refusal) → option_or a (option_or b c) ≡ option_or (option_or a b) c
-  grouped (Some a) b c = refl
-  grouped None b c = refl
 
 pub refused-among : {X : Type 0} (f : X → Option Refusal) (xs ys zs all : List X) (y : Refusal) → all ≡ (xs ++ ys) ++ zs
     → first_in f xs ≡ None → first_in f ys ≡ Some y → first_in f all ≡ Some y
