@@ -1,6 +1,5 @@
 -- Where the groups stand, from where their pieces end.
 use Rattle.std.proofs.Common.{◌≡◌, ℕ, ◌+◌, List, sym, ap, ◌∙◌}
-use Rattle.omos_model.specs.declared.fragment.Group.{Group}
 use Rattle.omos_model.specs.declared.fragment.Group.TheVariants.{Vars}
 use Rattle.omos_model.specs.declared.fragment.Piece.{Piece}
 use Rattle.omos_model.specs.declared.mark.Target.{Target}

@@ -89,7 +89,7 @@ module _ (places : List (List ℕ)) (table : SlotTable) (base : ℕ) where
   pub patched-at : (r : Reference) (place field : ℕ) (new old : List ℕ)
       → place ≡ field_place_in places r
       → Some field ≡ field_value r.fixup.kind (address_in places base (target_at r.landing))
-          r.fixup.addend (base + place) (slot_in table (target_at r.landing))
+      r.fixup.addend (base + place) (slot_in table (target_at r.landing))
       → field_place_in places r + width r.fixup.kind ≤ length old
       → new ≡ with_number (width r.fixup.kind) place field old
       → IsPatched places table base (r ∷ []) new old

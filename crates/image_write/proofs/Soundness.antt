@@ -1,21 +1,15 @@
 -- A laid out module is sound.
-use Rattle.std.proofs.Common.{◌≡◌, ℕ, ◌^◌, ◌≤◌, List, [], ◌∷◌, ◌++◌, All, length, map, Option, Some, None, Ok, refl, sym, ap, subst, ◌∙◌, arith}
-use Rattle.std.specs.List.{zip}
+use Rattle.std.proofs.Common.{◌≡◌, ℕ, ◌^◌, ◌≤◌, List, [], All, length, Option, Some, None, Ok, refl, sym, ap, subst, ◌∙◌, arith}
 use Rattle.std.specs.Option.{option_or}
 use Rattle.std.proofs.lemmas.Bool.Decides.{nat_tests}
-use Rattle.std.proofs.lemmas.List.{length-map}
 use Rattle.std.proofs.lemmas.List.Elements.{All-weaker}
-use Rattle.omos_model.specs.State.{states}
-use Rattle.omos_model.specs.declared.entry.Entry.{Entry}
 use Rattle.omos_model.specs.declared.fragment.Group.{Group}
-use Rattle.omos_model.specs.declared.mark.Landing.{Landing}
-use Rattle.omos_model.specs.declared.mark.MarkRow.{MarkRow}
 use Rattle.omos_model.specs.declared.refusal.Refusal.{Refusal}
 use Rattle.link_model.specs.Laws.{BoundsLaw}
 use Rattle.link_model.specs.Layout.{all_pages, pieces_of, places_of, slots_of}
-use Rattle.link_model.specs.Module.{IsModule, plan_of_module, Module, Placing, found, part_with, parts_of_module, placing_of, terms_of_module}
+use Rattle.link_model.specs.Module.{IsModule, plan_of_module, Module, Placing, found, parts_of_module, placing_of, terms_of_module}
 use Rattle.link_model.specs.Plan.{Plan, no_start, plan_refusal, planned, too_large, unless_refused, unresolved}
-use Rattle.link_model.specs.Program.{Parts, landings_of, object_of}
+use Rattle.link_model.specs.Program.{Parts, object_of}
 use Rattle.link_layout.proofs.Parts.{pieces-parts}
 use Rattle.link_layout.proofs.Planned.{as_many}
 use Rattle.image_write.specs.declared.groups.Groups.{Groups}

@@ -44,8 +44,8 @@ fn value_at(ground: &Ground, p: u64, fixup: &Fixup, landing: &Landing) -> Option
     requires base { ground.now.base ≤ max_place }
     ensures { let target = target_at landing.now in
         result ≡ field_value fixup.now.kind
-            (address_in ground.now.places.now ground.now.base target)
-            fixup.now.addend p (slot_in ground.now.table.now target) }
+        (address_in ground.now.places.now ground.now.base target)
+        fixup.now.addend p (slot_in ground.now.table.now target) }
 {
     let kind = fixup.kind;
     if is_got(kind) {
