@@ -26,7 +26,7 @@ use Rattle.image_write.specs.Addresses.{address_in, slot_in, slots_byte}
 use Rattle.image_write.specs.Fields.{field_in, last_byte, overflow_in}
 use Rattle.image_write.specs.Groups.{file_size}
 use Rattle.image_write.specs.Painted.{Painted}
-use Rattle.image_write.specs.Pieces.{IsLawful, all_pieces, pieces_in}
+use Rattle.link_layout.specs.Pieces.{IsLawful, all_pieces, pieces_in}
 use Rattle.image_write.specs.Sections.{Placed, byte_at, first_byte, placed_in}
 use Rattle.image_write.specs.Standing.{LeafStands, LeavesStand, Stands}
 use Rattle.image_write.proofs.Lawful.{piece-bytes, tested}

@@ -18,9 +18,9 @@ use Rattle.link_model.specs.Program.{Parts, object_of}
 use Rattle.image_write.specs.Addresses.{AreLow, max_place, place_in}
 use Rattle.image_write.specs.Fields.{AreFieldsInside, IsFieldInside}
 use Rattle.image_write.specs.Groups.{file_size}
-use Rattle.image_write.specs.Pieces.{IsLawful, pieces_in}
+use Rattle.link_layout.specs.Pieces.{IsLawful, pieces_in}
 use Rattle.image_write.specs.Sections.{AreInside, IsInside, IsLeafInside, Placed}
-use Rattle.image_write.specs.Slots.{fixups_in}
+use Rattle.link_layout.specs.Slots.{fixups_in}
 use Rattle.image_write.specs.Standing.{LeafStands, LeavesStand, Stands}
 use Rattle.image_write.proofs.Lawful.{piece-bytes, tested}
 use Rattle.image_write.proofs.Sectioned.{pair-at}

@@ -7,7 +7,7 @@ use Rattle.std.proofs.lemmas.List.Elements.{All-weaker}
 use Rattle.std.proofs.lemmas.List.Sums.{AllPass-from_list_all}
 use Rattle.omos_model.specs.FragmentParts.{FragmentParts, IsFragment, are_distinct, is_fixup, is_in_bounds, is_piece, is_spot, is_zeros, max_entries, max_pieces}
 use Rattle.omos_model.specs.declared.fragment.Piece.{Piece}
-use Rattle.image_write.specs.Pieces.{AreBounded, IsBounded}
+use Rattle.link_layout.specs.Pieces.{AreBounded, IsBounded}
 
 pub record IsTested (f : FragmentParts) : Type 0 where
   pub count : length f.pieces ≤ max_pieces

@@ -17,25 +17,21 @@ use Rattle.omos_model.specs.declared.fragment.Fixup.{Fixup}
 use Rattle.omos_model.specs.declared.mark.Landing.{Landing}
 use Rattle.omos_model.specs.declared.refusal.Refusal.{Refusal}
 use Rattle.omos_model.specs.declared.refusal.Refusal.TheVariants.{Overflow}
+use Rattle.link_model.specs.Field.{field_value}
 use Rattle.link_model.specs.ImageBytes.{covers}
+use Rattle.link_model.specs.Layout.{target_at}
 use Rattle.link_model.specs.Module.{part_with}
 use Rattle.link_model.specs.Plan.{first_in}
 use Rattle.link_model.specs.Program.{Part, Reference, reference_of, references_in}
+use Rattle.link_layout.proofs.Parts.{first_in-append}
 use Rattle.image_write.specs.declared.slots.SlotTable.{SlotTable}
+use Rattle.image_write.specs.Addresses.{address_in, slot_in}
 use Rattle.image_write.specs.Fields.{IsPatched, byte_in, field_in, field_place_in, last_byte, overflow_in, references_of}
 use Rattle.image_write.specs.Painted.{Painted, run_at}
-use Rattle.image_write.specs.Slots.{fixups_in}
+use Rattle.link_layout.specs.Slots.{fixups_in}
 use Rattle.image_write.proofs.Painting.{either, painted-as, painted-run, painted-then}
 
 -- ---- the first refusal of some references
-
-pub first_in-append : {X : Type 0} (f : X → Option Refusal) (xs ys : List X)
-    → first_in f (xs ++ ys) ≡ option_or (first_in f xs) (first_in f ys)
-first_in-append f [] ys = refl
-first_in-append f (x ∷ xs) ys = ap (option_or (f x)) (first_in-append f xs ys) ∙ grouped (f x) (first_in f xs) (first_in f ys) where
-  grouped : (a b c : Option Refusal) → option_or a (option_or b c) ≡ option_or (option_or a b) c
-  grouped (Some a) b c = refl
-  grouped None b c = refl
 
 pub refused-among : {X : Type 0} (f : X → Option Refusal) (xs ys zs all : List X) (y : Refusal) → all ≡ (xs ++ ys) ++ zs
     → first_in f xs ≡ None → first_in f ys ≡ Some y → first_in f all ≡ Some y
@@ -88,6 +84,21 @@ module _ (places : List (List ℕ)) (table : SlotTable) (base : ℕ) where
             (λ i. if covers at (n i) x then Some (slice_index bytes (x - at)) else None)
             ∙ (λ i. if covers at w x then Some (slice_index (little_bytes w (unwrap_or (sym e i) 0)) (x - at)) else None)
             ∙ sym (chosen (covers at w x) (byte_in places table base x) r)
+
+  -- the same, from the field's place and the number that it gets there
+  pub patched-at : (r : Reference) (place field : ℕ) (new old : List ℕ)
+      → place ≡ field_place_in places r
+      → Some field ≡ field_value r.fixup.kind (address_in places base (target_at r.landing))
+      r.fixup.addend (base + place) (slot_in table (target_at r.landing))
+      → field_place_in places r + width r.fixup.kind ≤ length old
+      → new ≡ with_number (width r.fixup.kind) place field old
+      → IsPatched places table base (r ∷ []) new old
+  patched-at r place field new old at value fits en =
+      let target = target_at r.landing in
+      patched-one r field new old
+      ((λ i. field_value r.fixup.kind (address_in places base target) r.fixup.addend
+      (base + sym at i) (slot_in table target)) ∙ sym value)
+      fits (en ∙ (λ i. with_number (width r.fixup.kind) (at i) field old))
 
   pub patched-append : (rs ts : List Reference) (new mid old : List ℕ) → IsPatched places table base rs mid old
       → IsPatched places table base ts new mid → IsPatched places table base (rs ++ ts) new old

@@ -11,7 +11,7 @@ use Rattle.omos_model.specs.declared.entry.Entry.{Entry}
 use Rattle.omos_model.specs.declared.fragment.Piece.{Piece}
 use Rattle.link_model.specs.ImageBytes.{covers}
 use Rattle.image_write.specs.Painted.{Painted, run_at}
-use Rattle.image_write.specs.Pieces.{all_pieces, pieces_in}
+use Rattle.link_layout.specs.Pieces.{all_pieces, pieces_in}
 use Rattle.image_write.specs.Sections.{AreInside, IsInside, IsLeafInside, Placed, byte_at, first_byte, placed_in}
 use Rattle.image_write.proofs.Painting.{either, painted-as, painted-nothing, painted-then}
 

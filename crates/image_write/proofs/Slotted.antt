@@ -13,7 +13,7 @@ use Rattle.link_model.specs.ImageBytes.{covers}
 use Rattle.link_model.specs.Layout.{same_target, slot_number}
 use Rattle.image_write.specs.Addresses.{address_in, slots_byte}
 use Rattle.image_write.specs.Painted.{Painted, run_at}
-use Rattle.image_write.specs.Targets.{same_target-decides}
+use Rattle.link_layout.specs.Targets.{same_target-decides}
 use Rattle.image_write.proofs.Painting.{painted-as, painted-run, painted-then, run_at-behind, run_at-below, run_at-inside}
 use Rattle.std.proofs.lemmas.Option.{slice_get_read}
 

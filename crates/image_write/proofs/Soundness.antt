@@ -1,24 +1,21 @@
 -- A laid out module is sound.
-use Rattle.std.proofs.Common.{◌≡◌, ℕ, ◌^◌, ◌≤◌, List, [], ◌∷◌, ◌++◌, All, length, map, Option, Some, None, Ok, refl, sym, ap, subst, ◌∙◌, arith}
-use Rattle.std.specs.List.{zip}
+use Rattle.std.proofs.Common.{◌≡◌, ℕ, ◌^◌, ◌≤◌, List, [], All, length, Option, Some, None, Ok, refl, sym, ap, subst, ◌∙◌, arith}
 use Rattle.std.specs.Option.{option_or}
 use Rattle.std.proofs.lemmas.Bool.Decides.{nat_tests}
-use Rattle.std.proofs.lemmas.List.{length-map}
 use Rattle.std.proofs.lemmas.List.Elements.{All-weaker}
-use Rattle.omos_model.specs.State.{states}
-use Rattle.omos_model.specs.declared.entry.Entry.{Entry}
-use Rattle.omos_model.specs.declared.mark.Landing.{Landing}
-use Rattle.omos_model.specs.declared.mark.MarkRow.{MarkRow}
+use Rattle.omos_model.specs.declared.fragment.Group.{Group}
 use Rattle.omos_model.specs.declared.refusal.Refusal.{Refusal}
 use Rattle.link_model.specs.Laws.{BoundsLaw}
 use Rattle.link_model.specs.Layout.{all_pages, pieces_of, places_of, slots_of}
-use Rattle.link_model.specs.Module.{IsModule, plan_of_module, Module, Placing, found, part_with, parts_of_module, placing_of, terms_of_module}
+use Rattle.link_model.specs.Module.{IsModule, plan_of_module, Module, Placing, found, parts_of_module, placing_of, terms_of_module}
 use Rattle.link_model.specs.Plan.{Plan, no_start, plan_refusal, planned, too_large, unless_refused, unresolved}
-use Rattle.link_model.specs.Program.{Parts, landings_of, object_of}
+use Rattle.link_model.specs.Program.{Parts, object_of}
+use Rattle.link_layout.proofs.Parts.{pieces-parts}
+use Rattle.link_layout.proofs.Planned.{as_many}
 use Rattle.image_write.specs.declared.groups.Groups.{Groups}
-use Rattle.image_write.specs.ByGroup.{AreNear}
+use Rattle.link_layout.specs.ByGroup.{bytes_of}
 use Rattle.image_write.specs.Groups.{AreGroups}
-use Rattle.image_write.specs.Pieces.{AreBounded, IsLawful, all_pieces, pieces_in}
+use Rattle.link_layout.specs.Pieces.{AreBounded, IsLawful, all_pieces, pieces_in}
 use Rattle.image_write.specs.Plans.{plan_with}
 use Rattle.image_write.specs.Sound.{IsLaid, IsSound}
 use Rattle.image_write.specs.Standing.{LeavesStand}
@@ -70,31 +67,16 @@ few-slots m l laid =
 
 -- ---- the module
 
-pub counted : (m : Module) → IsModule m → length m.landings ≡ length m.leaves
-counted m h =
-    let t = h.0 in
-    ap length h.2.landings ∙ length-map (states t) (landings_of t)
-    ∙ sym (ap length h.2.leaves ∙ length-map (states t) (λ (r : MarkRow). r.entry))
-
-pieces-same : (leaves : List Entry) (landings : List (List Landing)) → length landings ≡ length leaves
-    → pieces_of (map part_with (zip leaves landings)) ≡ all_pieces leaves
-pieces-same [] [] h = refl
-pieces-same [] (l ∷ landings) h = refl
-pieces-same (e ∷ leaves) [] h = absurd (omega arith)
-pieces-same (e ∷ leaves) (l ∷ landings) h = ap (λ ps. pieces_in e ++ ps) (pieces-same leaves landings (omega arith))
-
--- ---- both
-
 pub sound : (law : BoundsLaw) (x : Groups) (m : Module) (l : Placing) → IsModule m → IsLaid m l
-    → ((parts : Parts) → pieces_of parts ≡ all_pieces m.leaves → length (slots_of parts) ≡ length l.slots → AreGroups x parts)
-    → AreNear (2 ^ 52) x.begins → All IsLawful m.leaves → IsSound x m l
+    → ((parts : Parts) → pieces_of parts ≡ all_pieces m.leaves → slots_of parts ≡ l.slots → AreGroups x parts)
+    → ((g : Group) → bytes_of x.begins g ≤ 2 ^ 52) → All IsLawful m.leaves → IsSound x m l
 sound law x m l ism laid groups near lawful =
     let parts = parts_of_module m in
     let p = is-planned m l laid in
     let placing = p.placing in
     let pages = p.pages in
-    let count = counted m ism in
-    let same = pieces-same m.leaves m.landings count in
+    let count = as_many m ism in
+    let same = pieces-parts m.leaves m.landings count in
     let bounds : All (λ leaf. AreBounded (pieces_in leaf)) m.leaves =
     All-weaker IsLawful (λ leaf. AreBounded (pieces_in leaf)) (λ leaf h. bounded (object_of leaf) h) m.leaves lawful in
     let places : l.places ≡ places_of parts = ap (λ (y : Placing). y.places) placing in
@@ -105,7 +87,7 @@ sound law x m l ism laid groups near lawful =
     let many : length l.slots ≡ length (slots_of parts) = ap length slots in
     record {
       plan = p.plan ∙ ap Ok (sym (ap (plan_with m) placing));
-      groups = groups parts same (sym many);
+      groups = groups parts same (sym slots);
       near = near;
       small = omega arith;
       leaves = (law m ism).leaves;

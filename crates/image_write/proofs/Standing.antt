@@ -2,6 +2,7 @@
 use Rattle.std.proofs.Common.{◌≡◌, ℕ, suc, ◌+◌, ◌≤◌, List, [], ◌∷◌, ◌++◌, All, length, map, fold, Bool, true, false, cond, refl, sym, ap, ◌∙◌, arith, append_assoc}
 use Rattle.std.specs.List.{zip}
 use Rattle.std.proofs.lemmas.List.Elements.{All-append, All-cons, All-head, All-nil, All-tail}
+use Rattle.std.proofs.lemmas.List.Sums.{fold-append}
 use Rattle.omos_model.specs.declared.entry.Entry.{Entry}
 use Rattle.omos_model.specs.declared.fragment.Group.{Group}
 use Rattle.omos_model.specs.declared.fragment.Group.TheVariants.{Code, Consts, Vars, Zeros}
@@ -10,7 +11,7 @@ use Rattle.omos_model.specs.declared.mark.Landing.{Landing}
 use Rattle.link_model.specs.Layout.{aligned, begin_of, end_of, end_with, pieces_of, place_of, places_behind, places_from, same_group}
 use Rattle.link_model.specs.Module.{part_with}
 use Rattle.link_model.specs.Program.{Parts}
-use Rattle.image_write.specs.Pieces.{AreBounded, IsBounded, all_pieces, pieces_in}
+use Rattle.link_layout.specs.Pieces.{AreBounded, IsBounded, all_pieces, pieces_in}
 use Rattle.image_write.specs.Standing.{LeafStands, LeavesStand, Stands}
 
 aligned-above : (align offset : ℕ) → 1 ≤ align → offset ≤ aligned align offset
@@ -35,10 +36,6 @@ ends-grow g (p ∷ ps) e h =
     let one : e ≤ end_with g e p = one-grows (same_group g p.group) e (begin_of e p + p.size) (omega arith) in
     let rest = ends-grow g ps (end_with g e p) (All-tail IsBounded p ps h) in
     omega (arith, one, rest)
-
-fold-append : {A B : Type 0} (f : B → A → B) (a : B) (xs ys : List A) → fold f a (xs ++ ys) ≡ fold f (fold f a xs) ys
-fold-append f a [] ys = refl
-fold-append f a (x ∷ xs) ys = fold-append f (f a x) xs ys
 
 one-stands : (parts : Parts) (before after : List Piece) (p : Piece) → pieces_of parts ≡ before ++ (p ∷ after)
     → IsBounded p → All IsBounded after → Stands parts (place_of parts before p, p)

@@ -11,9 +11,16 @@ use Rattle.link_model.specs.ImageBytes.{covers}
 use Rattle.link_model.specs.Layout.{same_target, slot_number}
 use Rattle.image_write.specs.declared.slots.SlotTable.{SlotTable}
 
--- where a piece of a leaf stands, counted from the base
+-- where the pieces of a leaf stand, counted from the base
+abbrev pub row_in : List (List ℕ) → ℕ → List ℕ
+row_in places leaf = unwrap_or (slice_get places leaf) []
+
+abbrev pub place_at : List ℕ → ℕ → ℕ
+place_at row piece = unwrap_or (slice_get row piece) 0
+
+-- where a piece of a leaf stands
 abbrev pub place_in : List (List ℕ) → ℕ → ℕ → ℕ
-place_in places leaf piece = unwrap_or (slice_get (unwrap_or (slice_get places leaf) []) piece) 0
+place_in places leaf piece = place_at (row_in places leaf) piece
 
 -- no piece stands higher
 abbrev pub max_place : ℕ

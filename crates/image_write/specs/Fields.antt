@@ -19,7 +19,7 @@ use Rattle.link_model.specs.Program.{Reference, reference_of}
 use Rattle.image_write.specs.declared.slots.SlotTable.{SlotTable}
 use Rattle.image_write.specs.Addresses.{address_in, place_in, slot_in}
 use Rattle.image_write.specs.Painted.{Painted}
-use Rattle.image_write.specs.Slots.{fixups_in}
+use Rattle.link_layout.specs.Slots.{fixups_in}
 
 -- where a field stands, counted from the base
 abbrev pub field_place_in : List (List ℕ) → Reference → ℕ

@@ -12,7 +12,7 @@ use Rattle.omos_model.specs.declared.fragment.Group.TheVariants.{Code, Consts, V
 use Rattle.link_model.specs.Layout.{page}
 use Rattle.link_model.specs.ImageBytes.{file_size, flags_of, stack}
 use Rattle.image_write.specs.declared.groups.Groups.{Groups}
-use Rattle.image_write.specs.ByGroup.{bytes_of}
+use Rattle.link_layout.specs.ByGroup.{bytes_of}
 
 -- PT_LOAD of a group that begins there and has this size
 abbrev pub load_at : ℕ → Group → ℕ → ℕ → Phdr

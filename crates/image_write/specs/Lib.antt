@@ -1,7 +1,3 @@
-pub mod ByGroup
-pub mod Pieces
-pub mod Slots
-pub mod Targets
 pub mod Groups
 pub mod Plans
 pub mod Headers

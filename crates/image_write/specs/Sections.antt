@@ -5,7 +5,7 @@ use Rattle.std.specs.Option.{option_map}
 use Rattle.omos_model.specs.declared.entry.Entry.{Entry}
 use Rattle.omos_model.specs.declared.fragment.Piece.{Piece}
 use Rattle.link_model.specs.ImageBytes.{covers}
-use Rattle.image_write.specs.Pieces.{all_pieces, pieces_in}
+use Rattle.link_layout.specs.Pieces.{all_pieces, pieces_in}
 
 abbrev pub Placed : Type 0
 Placed = ℕ × Piece

@@ -1,14 +1,15 @@
 -- What holds of a module, its layout and its groups, from which all bounds follow.
 use Rattle.std.specs.Prelude.{◌≡◌, ◌+◌, ◌*◌, ◌^◌, ◌≤◌, All, length, Ok}
+use Rattle.omos_model.specs.declared.fragment.Group.{Group}
 use Rattle.link_model.specs.Layout.{pieces_of, slots_begin}
 use Rattle.link_model.specs.Module.{Module, Placing, parts_of_module, placing_of, plan_of_module}
 use Rattle.link_model.specs.Plan.{Plan}
 use Rattle.image_write.specs.declared.groups.Groups.{Groups}
 use Rattle.image_write.specs.Addresses.{AreLow}
-use Rattle.image_write.specs.ByGroup.{AreNear}
+use Rattle.link_layout.specs.ByGroup.{bytes_of}
 use Rattle.image_write.specs.Fields.{AreFieldsInside}
 use Rattle.image_write.specs.Groups.{AreGroups, file_size}
-use Rattle.image_write.specs.Pieces.{IsLawful, all_pieces}
+use Rattle.link_layout.specs.Pieces.{IsLawful, all_pieces}
 use Rattle.image_write.specs.Plans.{plan_with}
 use Rattle.image_write.specs.Sections.{AreInside}
 use Rattle.image_write.specs.Standing.{LeavesStand}
@@ -21,7 +22,7 @@ IsLaid m l = (plan : Plan) × (plan_of_module m ≡ Ok plan) × (l ≡ placing_o
 pub record IsSound (x : Groups) (m : Module) (l : Placing) : Type 0 where
   pub plan : plan_of_module m ≡ Ok (plan_with m l)
   pub groups : AreGroups x (parts_of_module m)
-  pub near : AreNear (2 ^ 52) x.begins
+  pub near : (g : Group) → bytes_of x.begins g ≤ 2 ^ 52
   pub small : file_size (parts_of_module m) ≤ 2 ^ 23
   pub leaves : length m.leaves ≤ 256
   pub count : length m.landings ≡ length m.leaves

@@ -4,7 +4,7 @@ use Rattle.std.specs.List.{zip}
 use Rattle.omos_model.specs.declared.entry.Entry.{Entry}
 use Rattle.link_model.specs.Layout.{end_of, group_begin, pieces_of}
 use Rattle.link_model.specs.Program.{Parts}
-use Rattle.image_write.specs.Pieces.{pieces_in}
+use Rattle.link_layout.specs.Pieces.{pieces_in}
 use Rattle.image_write.specs.Sections.{Placed}
 
 -- a piece stands in its group

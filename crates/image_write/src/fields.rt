@@ -1,21 +1,21 @@
 //! The fields, in order of leaf and number: where two have a byte in common, the last has it.
 
-ghost use Rattle.std.specs.Prelude.{◌≡◌, ℕ, ℤ, ◌+◌, ◌≤◌, [], ◌∷◌, All, length, map};
+ghost use Rattle.std.specs.Prelude.{◌≡◌, ◌+◌, ◌≤◌, [], ◌∷◌, All, length, map};
 ghost use Rattle.std.specs.List.{zip};
 ghost use Rattle.omos_model.specs.FragmentParts.{max_entries};
 ghost use Rattle.link_model.specs.Field.{field_value};
+ghost use Rattle.link_model.specs.Layout.{target_at};
 ghost use Rattle.link_model.specs.Module.{part_with};
 ghost use Rattle.link_model.specs.Program.{reference_of, references};
-ghost use Rattle.image_write.specs.Addresses.{AreLow, max_place, slot_in};
+ghost use Rattle.image_write.specs.Addresses.{AreLow, address_in, max_place, row_in, slot_in};
 ghost use Rattle.image_write.specs.Fields.{AreFieldsInside, IsFieldInside, Patches};
-ghost use Rattle.image_write.specs.Fields.{field_in, references_of};
-ghost use Rattle.image_write.specs.Slots.{fixups_in};
+ghost use Rattle.image_write.specs.Fields.{references_of};
 
-use crate::addresses::{address_in, place_in};
-use crate::slot::{is_got, target_at};
+use crate::addresses::{address_in, place_at, row_in};
 use crate::slots::SlotTable;
+use link_layout::{fixups_in, is_got, target_at};
 use omos_base::{Row, Shared};
-use omos_model::{Entry, Fixup, Kind, Landing, Refusal, Target};
+use omos_model::{Entry, Fixup, Landing, Refusal};
 
 /// What fields are computed from.
 #[derive(Clone, Copy)]
@@ -25,70 +25,69 @@ pub struct Ground<'a> {
     pub base: u64,
 }
 
-/// The fixups of a leaf. A leaf is an object; a blueprint would have none.
-fn fixups_in(leaf: &Shared<Entry>) -> &[Fixup]
-    ensures fixups { result.now ≡ fixups_in leaf.now }
-    ensures few { length result.now ≤ max_entries }
-{
-    match leaf.get() {
-        Entry::Object(fragment) => fragment.fixups(),
-        Entry::Blueprint(_) => &[],
-    }
-}
-
-/// The address of the target's slot, for a kind that asks for it.
-fn slot_for(table: &SlotTable, kind: Kind, target: Target) -> u64
-    ensures { (s : ℕ) (a : ℤ) (p : ℕ) →
-        field_value kind s a p result ≡ field_value kind s a p (slot_in table.now target) }
-{
-    if is_got(kind) {
-        table.address(target)
-    } else {
-        0
-    }
-}
-
-/// The number that a field gets, if the value fits.
-fn field_in(ground: &Ground, leaf: u32, fixup: &Fixup, landing: &Landing) -> Option<u64>
+/// The address of what a reference lands on.
+fn address_at(ground: &Ground, landing: &Landing) -> u64
     requires low { AreLow ground.now.places.now }
     requires base { ground.now.base ≤ max_place }
-    ensures { result ≡ field_in ground.now.places.now ground.now.table.now ground.now.base
-        (reference_of leaf (0, (fixup.now, landing.now))) }
+    ensures { result ≡ address_in ground.now.places.now ground.now.base (target_at landing.now) }
 {
-    let target = target_at(landing);
-    let s = address_in(ground.places, ground.base, target);
-    let p = ground.base + (place_in(ground.places, leaf, fixup.piece) + u64::from(fixup.offset));
-    let g = slot_for(ground.table, fixup.kind, target);
-    reloc_x64::value(fixup.kind, s, fixup.addend, p, g)
+    match landing {
+        Landing::On(target) => address_in(ground.places, ground.base, *target),
+        Landing::Nothing(_) => 0,
+    }
 }
 
-/// Writes the field of a reference, or refuses a value that doesn't fit: L13.
+/// The number that a field at this address gets, if the value fits. A kind asks for the address of
+/// the target's slot or for the target's own; the other isn't looked up.
+fn value_at(ground: &Ground, p: u64, fixup: &Fixup, landing: &Landing) -> Option<u64>
+    requires low { AreLow ground.now.places.now }
+    requires base { ground.now.base ≤ max_place }
+    ensures { let target = target_at landing.now in
+        result ≡ field_value fixup.now.kind
+        (address_in ground.now.places.now ground.now.base target)
+        fixup.now.addend p (slot_in ground.now.table.now target) }
+{
+    let kind = fixup.kind;
+    if is_got(kind) {
+        let g = ground.table.address(target_at(landing));
+        reloc_x64::value(kind, 0, fixup.addend, p, g)
+    } else {
+        let s = address_at(ground, landing);
+        reloc_x64::value(kind, s, fixup.addend, p, 0)
+    }
+}
+
+/// Writes the field of a reference of a leaf whose pieces stand there, or refuses a value that
+/// doesn't fit: L13.
 fn patch(
     body: &mut [u8],
     ground: &Ground,
+    row: &[u64],
     leaf: u32,
     number: u32,
     fixup: &Fixup,
     landing: &Landing,
 ) -> Result<(), Refusal>
     requires low { AreLow ground.now.places.now }
+    requires row { row.now ≡ row_in ground.now.places.now leaf }
     requires base { ground.now.base ≤ max_place }
     requires inside { IsFieldInside (length body.old) ground.now.places.now leaf fixup.now }
     ensures { Patches ground.now.places.now ground.now.table.now ground.now.base
         (reference_of leaf (number, (fixup.now, landing.now)) ∷ []) result body.new body.old }
 {
-    let Some(field) = field_in(ground, leaf, fixup, landing) else {
+    let place = place_at(row, fixup.piece) + u64::from(fixup.offset);
+    let Some(field) = value_at(ground, ground.base + place, fixup, landing) else {
         return Err(Refusal::Overflow {
             leaf,
             fixup: number,
         });
     };
-    let place = place_in(ground.places, leaf, fixup.piece) + u64::from(fixup.offset);
     reloc_x64::put(body, place as usize, fixup.kind, field);
     Ok(())
 }
 
-/// Writes the fields of a leaf.
+/// Writes the fields of a leaf. It is a function of its own, whose loop has the registers.
+#[inline(never)]
 fn patch_leaf(
     body: &mut [u8],
     ground: &Ground,
@@ -103,10 +102,12 @@ fn patch_leaf(
     ensures { Patches ground.now.places.now ground.now.table.now ground.now.base
         (references_of leaf fixups.now landings.now) result body.new body.old }
 {
+    let row = row_in(ground.places, leaf);
     for number in 0..fixups.len().min(landings.len()) {
         patch(
             body,
             ground,
+            row,
             leaf,
             number as u32,
             &fixups[number],

@@ -3,8 +3,9 @@
 ghost use Rattle.std.specs.Prelude.{◌≡◌, [], ◌∷◌, ◌+◌, ◌++◌, ◌^◌, ◌≤◌, length, IfOk, OnOk};
 ghost use Rattle.std.specs.List.{flat_map};
 ghost use Rattle.elf_words.specs.Phdr.{phdr_bytes};
+ghost use Rattle.omos_model.specs.declared.fragment.Group.{Group};
 ghost use Rattle.link_model.specs.ImageBytes.{file_size, flags_of, stack};
-ghost use Rattle.image_write.specs.ByGroup.{AreNear};
+ghost use Rattle.link_layout.specs.ByGroup.{bytes_of};
 ghost use Rattle.image_write.specs.Headers.{ehdr_with, headers_in, load_in, loads_in, page_in};
 
 use crate::groups::Groups;
@@ -43,7 +44,7 @@ fn file_size(group: Group, size: u64) -> u64
 
 /// PT_LOAD of a group.
 fn load_in(groups: &Groups, base: u64, group: Group) -> Phdr
-    requires near { AreNear (2 ^ 52) groups.now.begins }
+    requires near { (g : Group) → bytes_of groups.now.begins g ≤ 2 ^ 52 }
     requires base { base ≤ 2 ^ 47 }
     ensures { result ≡ load_in groups.now base group }
 {
@@ -84,7 +85,7 @@ fn push_load(
     base: u64,
     group: Group,
 ) -> Result<(), NoMemory>
-    requires near { AreNear (2 ^ 52) groups.now.begins }
+    requires near { (g : Group) → bytes_of groups.now.begins g ≤ 2 ^ 52 }
     requires base { base ≤ 2 ^ 47 }
     ensures added { OnOk result
         (headers.new ≡ headers.old ++ loads_in groups.now base (group ∷ [])) }
@@ -98,7 +99,7 @@ fn push_load(
 
 /// The program headers: one for each group that isn't of size 0, and the stack's.
 fn headers_in(alloc: Global, groups: &Groups, base: u64) -> Result<Row<Phdr>, NoMemory>
-    requires near { AreNear (2 ^ 52) groups.now.begins }
+    requires near { (g : Group) → bytes_of groups.now.begins g ≤ 2 ^ 52 }
     requires base { base ≤ 2 ^ 47 }
     ensures headers { IfOk result (λ headers. headers ≡ headers_in groups.now base) }
     ensures few { IfOk result (λ headers. length headers ≤ 5) }
@@ -144,7 +145,7 @@ fn push_headers(bytes: &mut Bytes, headers: &[Phdr]) -> Result<(), NoMemory>
 
 /// The header page of a program that starts at this address, or of one without a start at 0.
 pub fn page_in(alloc: Global, groups: &Groups, base: u64, entry: u64) -> Result<Bytes, NoMemory>
-    requires near { AreNear (2 ^ 52) groups.now.begins }
+    requires near { (g : Group) → bytes_of groups.now.begins g ≤ 2 ^ 52 }
     requires base { base ≤ 2 ^ 47 }
     ensures { IfOk result (λ bytes. bytes ≡ page_in groups.now base entry) }
 {

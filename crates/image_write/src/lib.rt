@@ -6,15 +6,11 @@
 
 mod addresses;
 mod body;
-mod by_group;
 mod fields;
 mod file;
 mod groups;
 mod headers;
-mod offsets;
-mod pieces;
 mod sections;
-mod slot;
 mod slots;
 
 pub use file::write;

@@ -8,7 +8,7 @@ ghost use Rattle.std.specs.List.{zip};
 ghost use Rattle.image_write.specs.Painted.{Painted, run_at};
 ghost use Rattle.image_write.specs.Sections.{AreInside, IsInside, first_byte, placed_in};
 
-use crate::pieces::pieces_in;
+use link_layout::pieces_in;
 use omos_base::{Row, Shared};
 use omos_model::{Entry, Piece};
 

@@ -5,8 +5,8 @@ ghost use Rattle.image_write.specs.Addresses.{AreLow, IsTable, max_place, slot_i
 ghost use Rattle.image_write.specs.Painted.{Painted};
 
 use crate::addresses::address_in;
-use crate::slot::Slot;
 use indexmap::IndexMap;
+use link_layout::Slot;
 use omos_base::{NoMemory, Row, put_u64};
 use omos_model::Target;
 use std::alloc::Global;
@@ -40,6 +40,7 @@ impl SlotTable {
     }
 
     /// The address of a target's slot: one look-up.
+    #[inline(never)]
     pub fn address(&self, target: Target) -> u64
         ensures { result ≡ slot_in self.now target }
     {

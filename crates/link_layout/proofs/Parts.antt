@@ -14,6 +14,7 @@ use Rattle.omos_model.specs.declared.fragment.Fixup.{Fixup}
 use Rattle.omos_model.specs.declared.fragment.Piece.{Piece}
 use Rattle.omos_model.specs.declared.mark.Landing.{Landing}
 use Rattle.omos_model.specs.declared.mark.Target.{Target}
+use Rattle.omos_model.specs.declared.refusal.Refusal.{Refusal}
 use Rattle.link_model.specs.Program.{Part, Parts, Reference, reference_of, references_in}
 use Rattle.link_model.specs.Module.{part_with}
 use Rattle.link_model.specs.Plan.{first_in, unresolved}
@@ -137,19 +138,19 @@ or_assoc : {X : Type 0} (a b c : Option X)
 or_assoc None b c = refl
 or_assoc (Some x) b c = refl
 
-first_in-append : (xs ys : List Reference)
-    → first_in refusal_of (xs ++ ys) ≡ option_or (first_in refusal_of xs) (first_in refusal_of ys)
-first_in-append [] ys = refl
-first_in-append (x ∷ xs) ys =
-    ap (option_or (refusal_of x)) (first_in-append xs ys)
-    ∙ sym (or_assoc (refusal_of x) (first_in refusal_of xs) (first_in refusal_of ys))
+pub first_in-append : {X : Type 0} (f : X → Option Refusal) (xs ys : List X)
+    → first_in f (xs ++ ys) ≡ option_or (first_in f xs) (first_in f ys)
+first_in-append f [] ys = refl
+first_in-append f (x ∷ xs) ys =
+    ap (option_or (f x)) (first_in-append f xs ys)
+    ∙ sym (or_assoc (f x) (first_in f xs) (first_in f ys))
 
 rows-refused : (n : ℕ) (xs : Rows)
     → first_in refusal_of (flat_map references_in (enumerate_from n (map part_with xs)))
     ≡ refusal_among (enumerate_from n xs)
 rows-refused n [] = refl
 rows-refused n (x ∷ xs) =
-    first_in-append (references_in (n, part_with x))
+    first_in-append refusal_of (references_in (n, part_with x))
     (flat_map references_in (enumerate_from (n + 1) (map part_with xs)))
     ∙ ap (option_or (refusal_of_leaf (n, x))) (rows-refused (n + 1) xs)
 

@@ -4,13 +4,13 @@ use Rattle.std.specs.List.{enumerate_from, sum_by, zip}
 use Rattle.omos_model.specs.declared.entry.Entry.{Entry}
 use Rattle.omos_model.specs.declared.mark.Landing.{Landing}
 use Rattle.omos_model.specs.declared.mark.Target.{Target}
-use Rattle.link_model.specs.Layout.{pieces_of, places_of, slots_of}
+use Rattle.link_model.specs.Layout.{end_of, pieces_of, places_of, slots_of}
 use Rattle.link_model.specs.Module.{IsModule, Module, parts_of_module}
 use Rattle.link_model.specs.Plan.{unresolved}
 use Rattle.link_model.specs.Program.{Parts}
 use Rattle.link_model.proofs.Modules.{bounds_law}
 use Rattle.link_layout.specs.declared.by_group.ByGroup.{ByGroup}
-use Rattle.link_layout.specs.Layout.{AreSizes, places_over}
+use Rattle.link_layout.specs.Layout.{AreEnds, AreSizes, places_over}
 use Rattle.link_layout.specs.Pieces.{all_pieces}
 use Rattle.link_layout.specs.References.{refusal_among}
 use Rattle.link_layout.specs.Slots.{slots_with_leaf}
@@ -37,7 +37,7 @@ module _ (m : Module) (is : IsModule m) (leaves : List Entry) (same : leaves ≡
 
     module _ (slots : List Target)
         (seen : slots ≡ fold slots_with_leaf [] (zip leaves landings)) where
-      pub few_slots : length slots ≤ 524288
+      pub few_slots : length slots ≤ 1048576
       few_slots =
           omega (
             arith,
@@ -52,10 +52,10 @@ module _ (m : Module) (is : IsModule m) (leaves : List Entry) (same : leaves ≡
           seen ∙ (λ i. fold slots_with_leaf [] (zip (same i) (alike i)))
           ∙ sym (slots-parts m.leaves m.landings)
 
-      pub sizes_are : (sizes : ByGroup)
-          → ((parts : Parts) → pieces_of parts ≡ all_pieces leaves → slots_of parts ≡ slots
+      pub sizes_are : (ends sizes : ByGroup) → AreEnds ends (all_pieces leaves)
+          → ((parts : Parts) → AreEnds ends (pieces_of parts) → slots_of parts ≡ slots
           → AreSizes sizes parts)
           → AreSizes sizes (parts_of_module m)
-      sizes_are sizes h =
-          h (parts_of_module m)
-          (pieces-parts m.leaves m.landings (as_many m is) ∙ ap all_pieces (sym same)) (sym slots_are)
+      sizes_are ends sizes end h =
+          let pieces = pieces-parts m.leaves m.landings (as_many m is) ∙ ap all_pieces (sym same) in
+          h (parts_of_module m) (λ g. end g ∙ ap (end_of g) (sym pieces)) (sym slots_are)

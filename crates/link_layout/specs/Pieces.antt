@@ -1,7 +1,7 @@
 -- The pieces of leaves.
 use Rattle.std.specs.Prelude.{◌≤◌, List, All, length}
 use Rattle.std.specs.List.{flat_map}
-use Rattle.omos_model.specs.FragmentParts.{max_pieces, max_size}
+use Rattle.omos_model.specs.FragmentParts.{IsFragment, max_pieces, max_size}
 use Rattle.omos_model.specs.declared.entry.Entry.{Entry}
 use Rattle.omos_model.specs.declared.fragment.Piece.{Piece}
 use Rattle.link_model.specs.Program.{object_of}
@@ -24,3 +24,7 @@ pub record IsBounded (p : Piece) : Type 0 where
 pub record AreBounded (pieces : List Piece) : Type 0 where
   pub count : length pieces ≤ max_pieces
   pub each : All IsBounded pieces
+
+-- a leaf's object is lawful
+abbrev pub IsLawful : Entry → Type 0
+IsLawful leaf = IsFragment (object_of leaf)

@@ -2,7 +2,8 @@
 
 use omos_model::Group;
 
-/// A number of bytes for each group: where it ends so far, its size, or where it begins.
+/// A number of bytes for each group: where it ends so far, its size, or where it begins, counted
+/// from the base.
 #[derive(Clone, Copy, Debug)]
 pub struct ByGroup {
     pub code: u64,

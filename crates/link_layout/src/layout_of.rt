@@ -10,6 +10,7 @@ ghost use Rattle.link_layout.specs.Layout.{AreSizes};
 ghost use Rattle.link_layout.specs.References.{RefusesFor};
 
 use crate::by_group::ByGroup;
+use crate::pieces::ends_of;
 use crate::places::places_of;
 use crate::references::check_references;
 use crate::sizes::{all_pages, begins_of, sizes_of};
@@ -30,7 +31,7 @@ fn measure(alloc: Global, evaluated: &Evaluated) -> Result<(Row<Target>, ByGroup
 {
     let leaves = evaluated.leaves();
     let slots = slots_of(alloc, leaves, evaluated.landings())?;
-    let sizes = sizes_of(leaves, slots.as_slice());
+    let sizes = sizes_of(&ends_of(leaves), slots.as_slice());
     Ok((slots, sizes))
 }
 

@@ -6,7 +6,8 @@ ghost use Rattle.link_model.specs.Layout.{aligned, page, pages_of};
 /// The bytes of a page.
 pub const PAGE: u64 = 4_096;
 
-/// The next offset that the alignment divides.
+/// The next offset that the alignment divides, which is this one where it does. An alignment is 1
+/// to 4,096, and an offset counts from the base.
 pub fn aligned(align: u64, offset: u64) -> u64
     requires align { (1 ≤ align) × (align ≤ 4096) }
     requires offset { offset ≤ 2 ^ 56 }

@@ -1,20 +1,24 @@
 //! How far the pieces of leaves reach in each group.
 
-ghost use Rattle.std.specs.Prelude.{◌≡◌, ◌+◌, ◌^◌, ◌≤◌, fold, length};
+ghost use Rattle.std.specs.Prelude.{◌≡◌, ◌+◌, ◌^◌, ◌≤◌, All, fold, length};
 ghost use Rattle.omos_model.specs.declared.fragment.Group.{Group};
-ghost use Rattle.link_model.specs.Layout.{begin_of, end_of, end_with};
+ghost use Rattle.link_model.specs.Layout.{begin_of, end_with};
 ghost use Rattle.link_layout.specs.ByGroup.{bytes_of};
-ghost use Rattle.link_layout.specs.Pieces.{AreBounded, IsBounded, all_pieces, pieces_in};
+ghost use Rattle.link_layout.specs.Layout.{AreEnds};
+ghost use Rattle.link_layout.specs.Pieces.{AreBounded, IsBounded, IsLawful, all_pieces, pieces_in};
 
 use crate::by_group::ByGroup;
 use crate::offsets::aligned;
 use omos_base::Shared;
 use omos_model::{Entry, Piece};
 
-/// The pieces of a leaf. A leaf is an object; a blueprint would have none.
+/// The pieces of a leaf, in order. A leaf is an object; a blueprint would have none.
+///
+/// They are those of a lawful fragment, so there are few, and each is of bounded size.
 pub fn pieces_in(leaf: &Shared<Entry>) -> &[Piece]
     ensures pieces { result.now ≡ pieces_in leaf.now }
     ensures bounded { AreBounded result.now }
+    ensures lawful { IsLawful leaf.now }
 {
     match leaf.get() {
         Entry::Object(fragment) => fragment.pieces(),
@@ -49,11 +53,14 @@ fn lay_pieces(ends: &mut ByGroup, pieces: &[Piece])
     }
 }
 
-/// Where the groups end that have the pieces of these leaves. It passes over the pieces once.
+/// Where the groups end that have the pieces of these leaves, each counted from where the group
+/// begins: the pieces stand behind one another by leaf and number, each aligned. It passes over the
+/// pieces once.
 pub fn ends_of(leaves: &[Shared<Entry>]) -> ByGroup
     requires { length leaves.now ≤ 256 }
-    ensures ends { (g : Group) → bytes_of result g ≡ end_of g (all_pieces leaves.now) }
+    ensures ends { AreEnds result (all_pieces leaves.now) }
     ensures near { (g : Group) → bytes_of result g ≤ 2 ^ 48 }
+    ensures lawful { All IsLawful leaves.now }
 {
     let mut ends = ByGroup::EMPTY;
     for leaf in leaves {

@@ -1,13 +1,15 @@
 //! The first reference that is bound to nothing.
 
-ghost use Rattle.std.specs.Prelude.{◌≡◌, ◌≤◌, length};
+ghost use Rattle.std.specs.Prelude.{◌≡◌, ℕ, ◌≤◌, Some, length};
 ghost use Rattle.std.specs.List.{enumerate_from, zip};
+ghost use Rattle.std.specs.Option.{option_copied, option_map};
+ghost use Rattle.omos_model.specs.declared.refusal.Refusal.TheVariants.{Unresolved};
 ghost use Rattle.link_model.specs.Plan.{is_weak};
 ghost use Rattle.link_model.specs.Program.{reference_of};
 ghost use Rattle.link_layout.specs.References.{RefusesFor, refusal_among, refusal_in, refusal_of};
 
 use crate::slots::fixups_in;
-use omos_base::{Fault, Row, Shared};
+use omos_base::{Fault, Row, Shared, SymName};
 use omos_model::{Aim, Entry, Fixup, Landing, Refusal};
 
 /// Whether the aim may stay undefined.
@@ -20,29 +22,33 @@ fn is_weak(aim: &Aim) -> bool
     }
 }
 
-/// Refuses a reference that is bound to nothing and isn't weak: L11.
-fn check_reference(
-    leaf: u32,
-    number: u32,
-    fixup: &Fixup,
-    landing: &Landing,
-) -> Result<(), Fault<Refusal>>
-    ensures { let r = reference_of leaf (number, (fixup.now, landing.now)) in
-        RefusesFor (refusal_of r) result }
+/// The name under which a reference is open, where it is bound to nothing and isn't weak.
+fn open_name<'a>(fixup: &Fixup, landing: &'a Landing) -> Option<&'a SymName>
+    ensures { (leaf number : ℕ) → refusal_of (reference_of leaf (number, (fixup.now, landing.now)))
+        ≡ option_map (Unresolved leaf number) (option_copied result) }
 {
     match landing {
-        Landing::On(_) => Ok(()),
+        Landing::On(_) => None,
         Landing::Nothing(name) => {
             if is_weak(&fixup.aim) {
-                return Ok(());
+                None
+            } else {
+                Some(name)
             }
-            Err(Fault::Refused(Refusal::Unresolved {
-                leaf,
-                fixup: number,
-                name: name.copy()?,
-            }))
         }
     }
+}
+
+/// Refuses a reference that is open under this name: L11.
+#[cold]
+fn refuse(leaf: u32, number: u32, name: &SymName) -> Result<(), Fault<Refusal>>
+    ensures { RefusesFor (Some (Unresolved leaf number name.now)) result }
+{
+    Err(Fault::Refused(Refusal::Unresolved {
+        leaf,
+        fixup: number,
+        name: name.copy()?,
+    }))
 }
 
 /// L11 for the first of a leaf's references that is bound to nothing and isn't weak.
@@ -51,7 +57,9 @@ fn check_leaf(leaf: u32, fixups: &[Fixup], landings: &[Landing]) -> Result<(), F
     ensures { RefusesFor (refusal_in leaf (enumerate_from 0 (zip fixups.now landings.now))) result }
 {
     for (number, (fixup, landing)) in fixups.iter().zip(landings).enumerate() {
-        check_reference(leaf, number as u32, fixup, landing)?;
+        if let Some(name) = open_name(fixup, landing) {
+            return refuse(leaf, number as u32, name);
+        }
     }
     Ok(())
 }

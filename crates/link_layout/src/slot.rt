@@ -8,7 +8,8 @@ use omos_model::{Kind, Landing, Target};
 use std::hash::{Hash, Hasher};
 use std::marker::Model;
 
-/// A slot, that contracts see as its target.
+/// The slot of a target, as the key of a table. Contracts see it as its target: two slots are equal
+/// where their targets are, also where two targets have one address.
 #[derive(Clone, Copy, Debug)]
 pub struct Slot {
     target: Target,
@@ -47,7 +48,8 @@ fn same_target(a: Target, b: Target) -> bool
     a == b
 }
 
-/// Whether the field holds where the slot of its target stands.
+/// Whether the field holds where the slot of its target stands: R_X86_64_GOTPCREL, GOTPCRELX and
+/// REX_GOTPCRELX (x86-64 psABI, "Relocation Types").
 pub fn is_got(kind: Kind) -> bool
     ensures { result ≡ is_got kind }
 {

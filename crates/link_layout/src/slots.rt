@@ -11,7 +11,7 @@ use omos_base::{NoMemory, Row, Shared};
 use omos_model::{Entry, Fixup, Landing, Target};
 use std::alloc::Global;
 
-/// The fixups of a leaf. A leaf is an object; a blueprint would have none.
+/// The fixups of a leaf, in order. A leaf is an object; a blueprint would have none.
 pub fn fixups_in(leaf: &Shared<Entry>) -> &[Fixup]
     ensures fixups { result.now ≡ fixups_in leaf.now }
     ensures few { length result.now ≤ max_entries }

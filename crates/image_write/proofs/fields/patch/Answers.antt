@@ -1,10 +1,11 @@
-use Rattle.std.proofs.Common.{sym, ◌+◌, ◌∙◌}
-use Rattle.omos_base.specs.Fields.{with_number}
-use Rattle.omos_model.specs.FragmentParts.{width}
-use Rattle.image_write.proofs.Patched.{patched-one}
+use Rattle.std.proofs.Common.{ap, ◌+◌, ◌∙◌}
+use Rattle.image_write.specs.Addresses.{place_at}
+use Rattle.image_write.proofs.Patched.{patched-at}
 use Rattle.image_write.proofs.fields.patch.Goals as goal
 
 pub returns : goal.returns
 returns c =
-    patched-one c.args.ground.now.places.now c.args.ground.now.table.now c.args.ground.now.base _ c.in-Some.field _ _ (sym c.in-Some.ensures) c.requires.inside.inside
-    (c.put.ensures ∙ (λ i. with_number (width c.args.fixup.now.kind) (c.place_in.ensures i + c.from.ensures i) c.in-Some.field c.args.body.now))
+    let begin = c.place_at.ensures ∙ ap (λ row. place_at row c.args.fixup.now.piece) c.requires.row in
+    patched-at c.args.ground.now.places.now c.args.ground.now.table.now c.args.ground.now.base _ _
+    c.in-Some.field _ _ (λ i. begin i + c.from.ensures i) c.in-Some.ensures c.requires.inside.inside
+    c.put.ensures

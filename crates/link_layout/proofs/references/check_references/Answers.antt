@@ -1,9 +1,7 @@
-use Rattle.std.proofs.Common.{refl, sym, ap, ◌∙◌}
-use Rattle.std.specs.List.{enumerate_from, zip}
-use Rattle.std.specs.Option.{option_or}
+use Rattle.std.proofs.Common.{refl, ◌∙◌}
 use Rattle.std.proofs.lemmas.List.{length_push}
 use Rattle.std.proofs.lemmas.Result.{err_from_is_err_and}
-use Rattle.link_layout.specs.References.{refusal_among, refusal_in, refusal_of_leaf}
+use Rattle.link_layout.specs.References.{refusal_among, refusal_of_leaf}
 use Rattle.link_layout.proofs.Refused.{handed_on, refusal_in-same}
 use Rattle.link_layout.proofs.Rest.{numbered-turn, numbered-end, first-passed, first-found, first-none}
 use Rattle.link_layout.proofs.references.check_references.Goals as goal

@@ -3,12 +3,12 @@ use Rattle.omos_model.specs.declared.fragment.Group.TheVariants.{Code, Consts, V
 use Rattle.link_layout.proofs.sizes.sizes_of.Goals as goal
 
 pub end_with_slots-requires-clause-end : goal.end_with_slots-requires-clause-end
-end_with_slots-requires-clause-end c = c.ends_of-ends.ensures.near Vars
+end_with_slots-requires-clause-end c = c.requires.near Vars
 
 pub returns-clause-near : goal.returns-clause-near
 returns-clause-near c = record {
-  code = omega (arith, c.ends_of-ends.ensures.near Code);
-  consts = omega (arith, c.ends_of-ends.ensures.near Consts);
-  vars = omega (arith, c.ends_of-ends.ensures.near Vars);
-  zeros = omega (arith, c.ends_of-ends.ensures.near Zeros);
+  code = omega (arith, c.requires.near Code);
+  consts = omega (arith, c.requires.near Consts);
+  vars = omega (arith, c.requires.near Vars);
+  zeros = omega (arith, c.requires.near Zeros);
 }
