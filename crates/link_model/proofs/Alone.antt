@@ -1,12 +1,12 @@
 -- The term of an object's path where nothing else is published.
 use Rattle.std.proofs.Common.{◌≡◌, ℕ, zero, suc, ◌+◌, ◌≤◌, Bool, true, false, [], ◌∷◌, Option, Some, None, Ok, Err}
 use Rattle.std.proofs.Common.{refl, sym, ap, ◌∙◌, subst, cond, length, arith}
-use Rattle.std.specs.Prelude.{nat_lt, nat_le, ◌&&◌}
+use Rattle.std.specs.Prelude.{nat_le}
 use Rattle.std.specs.List.{cons_option}
 use Rattle.std.specs.Option.{option_map}
 use Rattle.std.proofs.lemmas.Bool.{and_parts, and_from, leb-true, le-leb}
-use Rattle.omos_model.specs.FragmentParts.{FragmentParts, IsFragment, is_fragment, is_in_bounds, are_distinct}
-use Rattle.omos_model.specs.Names.{Name, same_name}
+use Rattle.omos_model.specs.FragmentParts.{FragmentParts, IsFragment, is_in_bounds, are_distinct}
+use Rattle.omos_model.specs.Names.{Name}
 use Rattle.omos_model.specs.Namespace.{Space, look_up}
 use Rattle.omos_model.specs.Term.{Term, Leaf}
 use Rattle.omos_model.specs.Expansion.{Source, Object, Visited, add_read, entered, expand, first_visit, leaf, opened, site_of, source, source_of, too_deep, unless_cycle}

@@ -12,7 +12,7 @@ use Rattle.omos_model.specs.Tree as tree
 use Rattle.omos_model.specs.Expansion.{Source, Object, Blueprint, Visited, Visitor, and_then, begin}
 use Rattle.omos_model.specs.Expansion.{leaf, both, one, visit, here, add_read, begin_path, nested}
 use Rattle.omos_model.specs.Expansion.{entered, unless_cycle, opened, too_deep, expand}
-use Rattle.omos_model.specs.declared.refusal.Refusal.TheVariants.{Cycle, TooDeep, TooLarge}
+use Rattle.omos_model.specs.declared.refusal.Refusal.TheVariants.{Cycle, TooLarge}
 use Rattle.omos_model.specs.declared.refusal.Site.{Site}
 use Rattle.omos_model.specs.declared.visit.Visit.{Visit}
 use Rattle.omos_model.proofs.Names.{same_name-refl}

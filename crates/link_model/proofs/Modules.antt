@@ -1,5 +1,5 @@
 -- What an evaluated module has of its term.
-use Rattle.std.proofs.Common.{◌≡◌, ℕ, ◌+◌, ◌≤◌, List, [], ◌∷◌, Option, Some, None, Result, Ok, Err}
+use Rattle.std.proofs.Common.{◌≡◌, ◌+◌, List, [], ◌∷◌, Option, Some, None, Result}
 use Rattle.std.proofs.Common.{refl, sym, ap, ◌∙◌, cond, length, map, arith}
 use Rattle.std.specs.List.{zip, sum_by}
 use Rattle.std.specs.Option.{option_map, option_or}
@@ -22,9 +22,9 @@ use Rattle.omos_model.specs.declared.mark.Target.{Target}
 use Rattle.omos_model.specs.declared.refusal.Refusal.{Refusal}
 use Rattle.omos_model.specs.declared.refusal.Refusal.TheVariants.{NoStart}
 use Rattle.omos_model.proofs.Counts.{counts_law}
-use Rattle.link_model.specs.Laws.{IsBounded, BoundsLaw, OwnPlanLaw}
+use Rattle.link_model.specs.Laws.{BoundsLaw, OwnPlanLaw}
 use Rattle.link_model.specs.Layout.{pages_in_all, places_of, slots_of}
-use Rattle.link_model.specs.Module.{Module, part_with, parts_of_module, found, terms_of_module}
+use Rattle.link_model.specs.Module.{part_with, parts_of_module, found, terms_of_module}
 use Rattle.link_model.specs.Plan.{Plan, plan_of_expansion, plan_of_parts, plan_of_term, terms_at}
 use Rattle.link_model.specs.Plan.{entry_of, no_start, too_large, unless_refused, unresolved}
 use Rattle.link_model.specs.Program.{Parts, Terms, landings_of, part_of, parts_of_term, terms_of}

@@ -1,7 +1,7 @@
 //! A linked image.
 
 ghost use Rattle.std.specs.Prelude.{◌≡◌};
-ghost use Rattle.link_model.specs.Module.{IsLinked};
+ghost use Rattle.link_model.specs.Module.{IsLinked, linked_image};
 
 use omos_base::{Bytes, PathName, Row};
 use omos_model::Stamped;
@@ -35,6 +35,26 @@ impl Model for Linked {
 }
 
 impl Linked {
+    /// The image of a path at a base. It takes no memory.
+    pub fn of(
+        path: PathName,
+        base: u64,
+        pages: u32,
+        bytes: Bytes,
+        footprint: Row<Stamped>,
+    ) -> Linked
+        requires { IsLinked (linked_image path base pages bytes footprint) }
+        ensures { result ≡ linked_image path base pages bytes footprint }
+    {
+        Linked {
+            path,
+            base,
+            pages,
+            bytes,
+            footprint,
+        }
+    }
+
     /// The path.
     pub fn path(&self) -> &PathName
         ensures path { result.now ≡ self.now.path }

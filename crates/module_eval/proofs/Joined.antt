@@ -1,7 +1,7 @@
 -- The parts of a term under a node, by what the operands are.
-use Rattle.std.proofs.Common.{◌≡◌, Option, None, Result, refl, sym, subst}
+use Rattle.std.proofs.Common.{◌≡◌, Option, Some, None, Result, refl, sym, subst}
 use Rattle.std.specs.Prelude.{IfOk}
-use Rattle.std.specs.Option.{option_map}
+use Rattle.std.specs.Option.{option_map, option_or}
 use Rattle.omos_base.specs.declared.fault.Fault.{Fault}
 use Rattle.omos_model.specs.Definition.{definition}
 use Rattle.omos_model.specs.FirstRefusal.{conflict, first_refusal, refused_by}
@@ -23,6 +23,13 @@ abbrev pub TakesAnswer : {E : Type 0} → Result TableParts (Fault TableFault) �
 TakesAnswer answer s out =
     (t : Term) (refused : Option Refusal) → Answers answer s t refused
     → IfOk out (λ part. MeansWhere part t refused)
+
+-- what comes first of two comes first of three
+pub first_of : {X : Type 0} (a b c : Option X) (x : X) → option_or a b ≡ Some x
+    → option_or a (option_or b c) ≡ Some x
+first_of (Some y) b c x h = h
+first_of None (Some y) c x h = h
+first_of None None c x h = cc
 
 pub merged : {E : Type 0} (s : Site) (left right : Part) (a b : TableParts)
     (answer : Result TableParts (Fault TableFault)) (out : Result Part E)

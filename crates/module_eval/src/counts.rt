@@ -68,11 +68,7 @@ pub fn begin_node(at: &PathName, counts: &mut Counts) -> Result<Site, Fault<Refu
     Ok(here)
 }
 
-fn begin_if(
-    counted: bool,
-    at: &PathName,
-    counts: &mut Counts,
-) -> Result<Site, Fault<Refusal>>
+fn begin_if(counted: bool, at: &PathName, counts: &mut Counts) -> Result<Site, Fault<Refusal>>
     requires { AreCounted counts.old }
     ensures walk { Steps result (begin_path counted at.now (visit_of counts.old)) counts.new }
     ensures counted { AreCounted counts.new }

@@ -65,20 +65,14 @@ fn finish(
 /// It reads each path once for each node that names it, and applies each operator once, to tables
 /// that are moved; no object is copied. Its calls go as deep as the blueprints nest: at most 32 of
 /// them, of at most 64 parentheses each, with three calls at each.
-pub fn evaluate(
-    alloc: Global,
-    snap: &Snap,
-    path: &PathName,
-) -> Result<Evaluated, Fault<Refusal>>
+pub fn evaluate(alloc: Global, snap: &Snap, path: &PathName) -> Result<Evaluated, Fault<Refusal>>
     ensures { MatchFault result
         (IsEvaluatedOn snap.now path.now)
         (λ x. refusal_of (expansion snap.now path.now) ≡ Some x) }
 {
     let mut counts = Counts::new(alloc);
     match expand(alloc, snap, path, &mut counts) {
-        Ok(Part::Built(table)) => {
-            Ok(finish(alloc, snap, path, &table, counts.read.as_slice())?)
-        }
+        Ok(Part::Built(table)) => { Ok(finish(alloc, snap, path, &table, counts.read.as_slice())?) }
         Ok(Part::Failed(refusal)) => Err(Fault::Refused(refusal)),
         Err(fault) => Err(fault),
     }

@@ -33,11 +33,7 @@ fn add(entries: &mut Row<Stamped>, snap: &Snap, path: &PathName) -> Result<(), N
 }
 
 /// The entries of the paths, in their order. They are shared and not copied.
-pub fn entries_of(
-    alloc: Global,
-    snap: &Snap,
-    paths: &[PathName],
-) -> Result<Row<Stamped>, NoMemory>
+pub fn entries_of(alloc: Global, snap: &Snap, paths: &[PathName]) -> Result<Row<Stamped>, NoMemory>
     ensures { IfOk result (λ entries. entries ≡ filter_map (look_up snap.now) paths.now) }
 {
     let mut entries = Row::new(alloc);

@@ -5,7 +5,7 @@ ghost use Rattle.omos_model.specs.Term.{Term, Merge, Override, Apply};
 ghost use Rattle.omos_model.specs.declared.refusal.Refusal.{Refusal as Cause};
 ghost use Rattle.omos_model.specs.declared.refusal.Site.{Site as Place};
 ghost use Rattle.module_table.specs.Stands.{Answers, refusal_at};
-ghost use Rattle.module_eval.specs.Meant.{Means, MeansWhere};
+ghost use Rattle.module_eval.specs.Meant.{AreBuilt, Means, MeansWhere};
 ghost use Rattle.module_eval.specs.Operators.{op_of};
 ghost use Rattle.module_eval.specs.Walked.{term_with};
 
@@ -55,18 +55,27 @@ fn answered(site: &Site, answer: Result<Table, Fault<TableFault>>) -> Result<Par
     }
 }
 
+/// Both tables, or the refusal that comes first.
+fn tables(left: Part, right: Part) -> Result<(Table, Table), Refusal>
+    ensures { AreBuilt result left right }
+{
+    match left {
+        Part::Built(left) => match right {
+            Part::Built(right) => Ok((left, right)),
+            Part::Failed(refusal) => Err(refusal),
+        },
+        Part::Failed(refusal) => Err(refusal),
+    }
+}
+
 /// Both modules together.
 pub fn merge(site: &Site, left: Part, right: Part) -> Result<Part, NoMemory>
     ensures { (l r : Term) → Means left l → Means right r
         → IfOk result (λ part. Means part (Merge site.now l r)) }
 {
-    let left = match left {
-        Part::Built(table) => table,
-        Part::Failed(refusal) => return Ok(Part::Failed(refusal)),
-    };
-    match right {
-        Part::Built(right) => answered(site, Table::merge(left, right)),
-        Part::Failed(refusal) => Ok(Part::Failed(refusal)),
+    match tables(left, right) {
+        Ok((left, right)) => answered(site, Table::merge(left, right)),
+        Err(refusal) => Ok(Part::Failed(refusal)),
     }
 }
 
@@ -75,13 +84,9 @@ pub fn override_by(left: Part, right: Part) -> Result<Part, NoMemory>
     ensures { (s : Place) (l r : Term) → Means left l → Means right r
         → IfOk result (λ part. Means part (Override s l r)) }
 {
-    let left = match left {
-        Part::Built(table) => table,
-        Part::Failed(refusal) => return Ok(Part::Failed(refusal)),
-    };
-    match right {
-        Part::Built(right) => Ok(Part::Built(Table::override_by(left, right)?)),
-        Part::Failed(refusal) => Ok(Part::Failed(refusal)),
+    match tables(left, right) {
+        Ok((left, right)) => Ok(Part::Built(Table::override_by(left, right)?)),
+        Err(refusal) => Ok(Part::Failed(refusal)),
     }
 }
 

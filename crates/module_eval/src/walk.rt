@@ -180,14 +180,29 @@ fn visit_expr(
         Expr::Path(path) => visit_path(snap, above, true, at, path, counts),
         Expr::Merge(operands) => visit_operands(snap, above, at, operands_of(operands), counts),
         Expr::Override(left, right) => {
-            visit_two(snap, above, at, Join::Override, left.get(), right.get(), counts)
+            visit_two(
+                snap,
+                above,
+                at,
+                Join::Override,
+                left.get(),
+                right.get(),
+                counts,
+            )
         }
         Expr::Rename { from, to, body } => {
             let operator = Operator::Rename(from, to);
             visit_under(snap, above, at, operator, body.get(), counts)
         }
         Expr::Restrict { name, body } => {
-            visit_under(snap, above, at, Operator::Restrict(name), body.get(), counts)
+            visit_under(
+                snap,
+                above,
+                at,
+                Operator::Restrict(name),
+                body.get(),
+                counts,
+            )
         }
         Expr::Freeze { name, body } => {
             visit_under(snap, above, at, Operator::Freeze(name), body.get(), counts)
@@ -303,7 +318,7 @@ fn visit_more(
     ensures walk { (x : Tree) (v : Visit) (t : Term) → site.now ≡ here at.now v
         → tree_in snap.now above.old at.now x v ≡ Ok (t, visit_of counts.old) → Means left t
         → Walked result
-            (tree_in snap.now above.old at.now (with_operands x operands.now) v) counts.new }
+        (tree_in snap.now above.old at.now (with_operands x operands.now) v) counts.new }
     ensures counted { AreCounted counts.new }
     ensures above { OnOk result (above.new ≡ above.old) }
     ensures least { counts.old.nodes ≤ counts.new.nodes }

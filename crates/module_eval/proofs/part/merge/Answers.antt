@@ -1,6 +1,13 @@
-use Rattle.module_eval.proofs.Joined.{merged}
+use Rattle.std.specs.Option.{option_map}
+use Rattle.omos_model.specs.FirstRefusal.{conflict, first_refusal}
+use Rattle.omos_model.specs.declared.refusal.Refusal.TheVariants.{Conflict}
+use Rattle.module_eval.proofs.Joined.{first_of, merged}
 use Rattle.module_eval.proofs.part.merge.Goals as goal
 
-pub returns-in-Built-right : goal.returns-in-Built-right
-returns-in-Built-right c =
-    merged c.args.site.now c.args.left c.args.right c.in-Built.table c.in-Built-right.right c.merge.result c.answered.result c.in-Built.is c.in-Built-right.is c.merge.ensures c.answered.ensures
+pub returns-in-Ok : goal.returns-in-Ok
+returns-in-Ok c =
+    merged c.args.site.now c.args.left c.args.right c.in-Ok.left c.in-Ok.right c.merge.result c.answered.result c.in-Ok.ensures.0 c.in-Ok.ensures.1 c.merge.ensures c.answered.ensures
+
+pub returns-in-Err : goal.returns-in-Err
+returns-in-Err c l r h k =
+    first_of (first_refusal l) (first_refusal r) (option_map (Conflict c.args.site.now) (conflict l r)) c.in-Err.refusal (c.in-Err.ensures l r h k)

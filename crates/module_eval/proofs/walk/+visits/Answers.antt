@@ -1,4 +1,4 @@
-use Rattle.std.proofs.Common.{◌≡◌, ◌∙◌, suc, true, Ok, ◌-◌, ◌++◌, ◌∷◌, [], map, take, drop, length, sym, ap, subst, refl, arith}
+use Rattle.std.proofs.Common.{◌∙◌, suc, true, Ok, ◌-◌, ◌++◌, ◌∷◌, [], map, take, drop, length, sym, ap, subst, refl, arith}
 use Rattle.std.proofs.lemmas.Result.{err_from_is_err_and}
 use Rattle.omos_model.specs.Expansion.{begin_path, add_read, here, nested, source, visit}
 use Rattle.omos_model.specs.Term.{Apply, Merge}
@@ -8,8 +8,8 @@ use Rattle.omos_model.specs.declared.refusal.Site.{Site}
 use Rattle.module_eval.specs.Counted.{visit_of}
 use Rattle.module_eval.specs.Meant.{Means}
 use Rattle.module_eval.specs.Operators.{op_of}
-use Rattle.module_eval.specs.Walked.{Walked, path_in, term_with, tree_in, with_operands}
-use Rattle.module_eval.proofs.Operands.{err_to_left, more_on, one_more, rest_of, split_at, tree_of-Merge, two_of, two_walked}
+use Rattle.module_eval.specs.Walked.{path_in, term_with, tree_in, with_operands}
+use Rattle.module_eval.proofs.Operands.{err_to_left, more_on, one_more, split_at, tree_of-Merge, two_of, two_walked}
 use Rattle.module_eval.proofs.Paths.{barred, err_on_step, err_on_walk, none_at, object_at, opened, refused_inside, source_at, source_none, walked_inside}
 use Rattle.module_eval.proofs.walk.+visits.Goals as goal
 

@@ -42,11 +42,11 @@ abbrev pub invariant-visit_more-operands : goal.invariant-visit_more-operands
 invariant-visit_more-operands l =
     record {
       walked :
-        (x : Tree) (v : Visit) (t : Term) → l.site ≡ here l.at v
-        → tree_in l.snap l.fn.above l.at x v ≡ Ok (t, visit_of l.fn.counts) → Means l.fn.left t
-        → (u : Term)
-        × (tree_in l.snap l.fn.above l.at (with_operands x (take l.operand-index l.operands)) v ≡ Ok (u, visit_of l.counts))
-        × Means l.left u;
+          (x : Tree) (v : Visit) (t : Term) → l.site ≡ here l.at v
+          → tree_in l.snap l.fn.above l.at x v ≡ Ok (t, visit_of l.fn.counts) → Means l.fn.left t
+          → (u : Term)
+          × (tree_in l.snap l.fn.above l.at (with_operands x (take l.operand-index l.operands)) v ≡ Ok (u, visit_of l.counts))
+          × Means l.left u;
       counted : AreCounted l.counts;
       above : l.above ≡ l.fn.above;
       least : l.fn.counts.nodes ≤ l.counts.nodes;

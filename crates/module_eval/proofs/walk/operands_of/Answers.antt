@@ -1,7 +1,5 @@
-use Rattle.std.proofs.Common.{refl, sym, subst, ◌≤◌, length}
-use Rattle.std.specs.Prelude.{IsTrue}
+use Rattle.std.proofs.Common.{refl}
 use Rattle.omos_model.specs.declared.expr.Expr.TheVariants.{Merge}
-use Rattle.module_eval.specs.Walked.{are_formed}
 use Rattle.module_eval.proofs.Operands.{formed_operands}
 use Rattle.module_eval.proofs.walk.operands_of.Goals as goal
 
