@@ -4,21 +4,11 @@ ghost use Rattle.std.specs.Prelude.{◌≡◌, [], ◌∷◌, ◌++◌, IfOk, On
 ghost use Rattle.std.specs.List.{filter_map};
 ghost use Rattle.omos_model.specs.Namespace.{look_up};
 
+use link_model::share_entry;
 use name_tree::Snap;
 use omos_base::{NoMemory, PathName, Row};
 use omos_model::Stamped;
 use std::alloc::Global;
-
-/// A second owner of the entry, with its path and stamp.
-fn share(stamped: &Stamped) -> Result<Stamped, NoMemory>
-    ensures { IfOk result (λ s. s ≡ stamped.now) }
-{
-    Ok(Stamped {
-        path: stamped.path.copy(),
-        stamp: stamped.stamp,
-        entry: stamped.entry.twin()?,
-    })
-}
 
 /// Appends the entry of the path, if it has one.
 fn add(entries: &mut Row<Stamped>, snap: &Snap, path: &PathName) -> Result<(), NoMemory>
@@ -28,7 +18,7 @@ fn add(entries: &mut Row<Stamped>, snap: &Snap, path: &PathName) -> Result<(), N
     let Some(stamped) = snap.get(path) else {
         return Ok(());
     };
-    entries.push(share(stamped)?)?;
+    entries.push(share_entry(stamped)?)?;
     Ok(())
 }
 
