@@ -17,7 +17,8 @@ use Rattle.omos_model.specs.declared.refusal.Refusal.{Refusal}
 use Rattle.omos_model.specs.declared.refusal.Refusal.TheVariants.{NoEntry, Cycle, TooDeep}
 use Rattle.omos_model.specs.declared.visit.Visit.{Visit}
 use Rattle.omos_model.specs.declared.refusal.Site.{Site}
-use Rattle.module_eval.specs.Counted.{Steps, visit_of}
+use Rattle.module_table.specs.Faults.{Tells}
+use Rattle.module_eval.specs.Counted.{StepsToNode, visit_of}
 use Rattle.module_eval.specs.Walked.{Walked, Bars, path_in, tree_in}
 use Rattle.module_eval.specs.declared.counts.Counts.{Counts}
 use Rattle.module_eval.specs.declared.part.Part.{Part}
@@ -65,10 +66,17 @@ pub source_none : (ns : Space) (p : Name) → None ≡ look_up ns p → source n
 source_none ns p h = sym (ap (option_map (λ (s : Stamped). source_of s.entry)) h)
 
 -- a refusal on the way is the walk's
-pub err_on_step : {A : Type 0} (f : Fault Refusal) (walk : Visited A) (more : A → Visitor Term)
-    (v w : Counts) → Steps {A = A} (Err f) walk v → Walked (Err f) (and_then walk more) w
-err_on_step (Refused x) walk more v w h = rw h refl
-err_on_step NoMemory walk more v w h = tt
+pub err_on_step : (f : Fault Refusal) (at : Name) (walk : Visited Site)
+    (more : Site → Visitor Term) (v w : Counts) → StepsToNode (Err f) at walk v
+    → Walked (Err f) (and_then walk more) w
+err_on_step (Refused x) at walk more v w h = rw h refl
+err_on_step NoMemory at walk more v w h = tt
+
+-- what is told is what the walk is refused for
+pub told : (f : Fault Refusal) (x : Refusal) (walk : Visited Term) (w : Counts) → Tells f x
+    → walk ≡ Err x → Walked (Err f) walk w
+told (Refused y) x walk w h k = k ∙ ap Err (sym h)
+told NoMemory x walk w h k = tt
 
 pub err_on_walk : (f : Fault Refusal) (walk : Visited Term) (more : Term → Visitor Term)
     (v w : Counts) → Walked (Err f) walk v → Walked (Err f) (and_then walk more) w
@@ -79,22 +87,22 @@ err_on_walk NoMemory walk more v w h = tt
 
 -- it is refused for what bars it
 pub barred : (ns : Name → Option Source) (slice above : List Name) (counted : Bool) (at p : Name)
-    (v : Visit) (t : Tree) (x : Refusal) → slice ≡ above → ns p ≡ Some (Blueprint t)
-    → Bars (Some x) slice at p v.node
-    → expand ns (32 - length above) above counted at p v ≡ Err x
-barred ns slice above counted at p v t x same there h =
+    (v : Visit) (t : Tree) (f : Fault Refusal) (w : Counts) → slice ≡ above
+    → ns p ≡ Some (Blueprint t) → Bars (Some f) slice at p v.node
+    → Walked (Err f) (expand ns (32 - length above) above counted at p v) w
+barred ns slice above counted at p v t f w same there h =
     let k = rw same at h in
     go (is_among above p) refl k.0 k.1
   where
     go : (c : Bool) → is_among above p ≡ c
-        → x ≡ cond c (Cycle (here at v) p) (TooDeep (here at v) p)
+        → Tells f (cond c (Cycle (here at v) p) (TooDeep (here at v) p))
         → (is_among above p ≡ false → 32 ≤ length above)
-        → expand ns (32 - length above) above counted at p v ≡ Err x
+        → Walked (Err f) (expand ns (32 - length above) above counted at p v) w
     go true e d far =
-        cycle_at ns above counted at p v (32 - length above) t there e ∙ ap Err (sym d)
+        told f (Cycle (here at v) p) _ w d (cycle_at ns above counted at p v (32 - length above) t there e)
     go false e d far =
         let deep = far e in
-        deep_at ns above counted at p v (32 - length above) t there e (omega (arith, deep)) ∙ ap Err (sym d)
+        told f (TooDeep (here at v) p) _ w d (deep_at ns above counted at p v (32 - length above) t there e (omega (arith, deep)))
 
 module _ (ns : Space) (slice above : List Name) (counted : Bool) (at p : Name) (v : Visit) (x : Tree)
     (there : source ns p ≡ Some (Blueprint x)) (same : slice ≡ above)

@@ -2,8 +2,9 @@
 use Rattle.std.specs.Prelude.{◌≡◌, ◌≤◌, ℕ, Result, Ok, Err}
 use Rattle.omos_base.specs.declared.fault.Fault.{Fault}
 use Rattle.omos_base.specs.declared.fault.Fault.TheVariants.{Refused, NoMemory}
-use Rattle.omos_model.specs.Expansion.{Visited, max_nodes, max_leaves, max_sum}
+use Rattle.omos_model.specs.Expansion.{Visited, max_nodes, max_leaves, max_sum, site_of}
 use Rattle.omos_model.specs.FragmentParts.{FragmentParts}
+use Rattle.omos_model.specs.Names.{Name}
 use Rattle.omos_model.specs.Term.{Term, Leaf}
 use Rattle.omos_model.specs.declared.refusal.Refusal.{Refusal}
 use Rattle.omos_model.specs.declared.refusal.Site.{Site}
@@ -30,13 +31,13 @@ pub record AreCounted (c : Counts) : Type 0 where
   pub exports : c.exports ≤ max_sum
   pub fixups : c.fixups ≤ max_sum
 
--- the step has this value and leaves these counts, or has this refusal
-abbrev pub Steps : {A : Type 0} → Result A (Fault Refusal) → Visited A → Counts → Type 0
-Steps (Ok x) walk new = walk ≡ Ok (x, visit_of new)
-Steps (Err (Refused x)) walk new = walk ≡ Err x
-Steps (Err NoMemory) walk new = Unit {0}
+-- the step begins the node of this number of the blueprint `at`, or is refused
+abbrev pub StepsToNode : Result ℕ (Fault Refusal) → Name → Visited Site → Counts → Type 0
+StepsToNode (Ok node) at walk new = walk ≡ Ok (site_of at node, visit_of new)
+StepsToNode (Err (Refused x)) at walk new = walk ≡ Err x
+StepsToNode (Err NoMemory) at walk new = Unit {0}
 
--- the step gives a leaf of this number
+-- the step gives the leaf of this number, or is refused
 abbrev pub StepsToLeaf :
     Result ℕ (Fault Refusal) → Site → FragmentParts → Visited Term → Counts → Type 0
 StepsToLeaf (Ok number) s f walk new = walk ≡ Ok (Leaf s number f, visit_of new)

@@ -17,6 +17,7 @@ use Rattle.omos_model.specs.declared.expr.Expr.{Expr}
 use Rattle.omos_model.specs.declared.refusal.Refusal.{Refusal}
 use Rattle.omos_model.specs.declared.refusal.Refusal.TheVariants.{Cycle, TooDeep}
 use Rattle.omos_model.specs.declared.refusal.Site.{Site}
+use Rattle.module_table.specs.Faults.{Tells}
 use Rattle.module_eval.specs.Counted.{visit_of}
 use Rattle.module_eval.specs.Meant.{Means}
 use Rattle.module_eval.specs.declared.counts.Counts.{Counts}
@@ -53,10 +54,10 @@ abbrev pub with_operands : Tree → List Expr → Tree
 with_operands x operands = fold tree.More x (map tree_of operands)
 
 -- why a blueprint may not be opened at a node of `at`, inside the blueprints `above`, if it may not
-abbrev pub Bars : Option Refusal → List Name → Name → Name → ℕ → Type 0
+abbrev pub Bars : Option (Fault Refusal) → List Name → Name → Name → ℕ → Type 0
 Bars None above at p node = (is_among above p ≡ false) × (length above < max_blueprints)
-Bars (Some x) above at p node =
-    (x ≡ (if is_among above p then Cycle (site_of at node) p else TooDeep (site_of at node) p))
+Bars (Some fault) above at p node =
+    Tells fault (if is_among above p then Cycle (site_of at node) p else TooDeep (site_of at node) p)
     × (is_among above p ≡ false → max_blueprints ≤ length above)
 
 -- each merge in them has at least two operands

@@ -1,13 +1,14 @@
 //! How far a walk through expressions has come.
 
 ghost use Rattle.std.specs.Prelude.{◌≡◌, ◌+◌, ◌≤◌, OnOk};
-ghost use Rattle.omos_model.specs.Expansion.{add_read, begin, begin_path, first_visit, leaf};
-ghost use Rattle.module_eval.specs.Counted.{AreCounted, Steps, StepsToLeaf, visit_of};
+ghost use Rattle.omos_model.specs.Expansion.{add_read, begin, begin_path, first_visit, leaf, site_of};
+ghost use Rattle.module_table.specs.Faults.{Tells};
+ghost use Rattle.module_eval.specs.Counted.{AreCounted, StepsToLeaf, StepsToNode, visit_of};
 
-use crate::node::{site, twin};
+use crate::node::{Stop, site, stopped};
 use indexmap::IndexSet;
-use omos_base::{Fault, NoMemory, PathName};
-use omos_model::{Fragment, Refusal, Site};
+use omos_base::{NoMemory, PathName};
+use omos_model::{Fragment, Refusal};
 use std::alloc::Global;
 
 const MAX_NODES: u32 = 4_096;
@@ -49,35 +50,52 @@ impl Counts {
             read: IndexSet::new(alloc),
         }
     }
+
+    /// Where its memory comes from.
+    pub fn alloc(&self) -> Global {
+        *self.read.allocator()
+    }
+}
+
+#[inline(never)]
+fn too_large(alloc: Global, at: &PathName, node: u32) -> Stop
+    ensures { Tells result (Refusal.TooLarge (site_of at.now node)) }
+{
+    stopped(
+        alloc,
+        Refusal::TooLarge {
+            site: site(at, node),
+        },
+    )
 }
 
 /// A node of the blueprint `at` begins.
-pub fn begin_node(at: &PathName, counts: &mut Counts) -> Result<Site, Fault<Refusal>>
+pub fn begin_node(at: &PathName, counts: &mut Counts) -> Result<u32, Stop>
     requires { AreCounted counts.old }
-    ensures walk { Steps result (begin at.now (visit_of counts.old)) counts.new }
+    ensures walk { StepsToNode result at.now (begin at.now (visit_of counts.old)) counts.new }
     ensures counted { AreCounted counts.new }
     ensures more { OnOk result (counts.new.nodes ≡ counts.old.nodes + 1) }
     ensures least { counts.old.nodes ≤ counts.new.nodes }
 {
-    let here = site(at, counts.node);
+    let node = counts.node;
     if counts.nodes >= MAX_NODES {
-        return Err(Fault::Refused(Refusal::TooLarge { site: here }));
+        return Err(too_large(counts.alloc(), at, node));
     }
     counts.node += 1;
     counts.nodes += 1;
-    Ok(here)
+    Ok(node)
 }
 
-fn begin_if(counted: bool, at: &PathName, counts: &mut Counts) -> Result<Site, Fault<Refusal>>
+fn begin_if(counted: bool, at: &PathName, counts: &mut Counts) -> Result<u32, Stop>
     requires { AreCounted counts.old }
-    ensures walk { Steps result (begin_path counted at.now (visit_of counts.old)) counts.new }
+    ensures walk { StepsToNode result at.now (begin_path counted at.now (visit_of counts.old)) counts.new }
     ensures counted { AreCounted counts.new }
     ensures least { counts.old.nodes ≤ counts.new.nodes }
 {
     if counted {
         begin_node(at, counts)
     } else {
-        Ok(site(at, counts.node))
+        Ok(counts.node)
     }
 }
 
@@ -97,9 +115,9 @@ pub fn enter(
     at: &PathName,
     path: &PathName,
     counts: &mut Counts,
-) -> Result<Site, Fault<Refusal>>
+) -> Result<u32, Stop>
     requires { AreCounted counts.old }
-    ensures walk { Steps result
+    ensures walk { StepsToNode result at.now
         (begin_path counted at.now (add_read path.now (visit_of counts.old))) counts.new }
     ensures counted { AreCounted counts.new }
     ensures least { counts.old.nodes ≤ counts.new.nodes }
@@ -108,15 +126,16 @@ pub fn enter(
     begin_if(counted, at, counts)
 }
 
-/// The next leaf's number.
+/// The number of the next leaf, at a node of the blueprint `at`.
 pub fn count_leaf(
-    site: &Site,
+    at: &PathName,
+    node: u32,
     fragment: &Fragment,
     counts: &mut Counts,
-) -> Result<u32, Fault<Refusal>>
+) -> Result<u32, Stop>
     requires { AreCounted counts.old }
-    ensures walk { StepsToLeaf result site.now fragment.now
-        (leaf fragment.now site.now (visit_of counts.old)) counts.new }
+    ensures walk { StepsToLeaf result (site_of at.now node) fragment.now
+        (leaf fragment.now (site_of at.now node) (visit_of counts.old)) counts.new }
     ensures counted { AreCounted counts.new }
     ensures same { counts.new.nodes ≡ counts.old.nodes }
 {
@@ -126,7 +145,7 @@ pub fn count_leaf(
         || exports > (MAX_SUM - counts.exports) as usize
         || fixups > (MAX_SUM - counts.fixups) as usize
     {
-        return Err(Fault::Refused(Refusal::TooLarge { site: twin(site) }));
+        return Err(too_large(counts.alloc(), at, node));
     }
     let number = counts.leaves;
     counts.leaves += 1;

@@ -10,6 +10,7 @@ ghost use Rattle.module_eval.specs.Walked.{Walked};
 
 use crate::counts::Counts;
 use crate::footprint::entries_of;
+use crate::node::Stop;
 use crate::part::Part;
 use crate::terms::{self, Terms};
 use crate::walk::visit_path;
@@ -22,12 +23,7 @@ use sqlite_items::Items;
 use std::alloc::Global;
 
 /// Goes to the requested path, which is no node that is counted.
-fn expand(
-    alloc: Global,
-    snap: &Snap,
-    path: &PathName,
-    counts: &mut Counts,
-) -> Result<Part, Fault<Refusal>>
+fn expand(alloc: Global, snap: &Snap, path: &PathName, counts: &mut Counts) -> Result<Part, Stop>
     requires first { visit_of counts.old ≡ first_visit }
     requires counted { AreCounted counts.old }
     ensures { Walked result (expansion snap.now path.now) counts.new }
@@ -73,7 +69,8 @@ pub fn evaluate(alloc: Global, snap: &Snap, path: &PathName) -> Result<Evaluated
     let mut counts = Counts::new(alloc);
     match expand(alloc, snap, path, &mut counts) {
         Ok(Part::Built(table)) => { Ok(finish(alloc, snap, path, &table, counts.read.as_slice())?) }
-        Ok(Part::Failed(refusal)) => Err(Fault::Refused(refusal)),
-        Err(fault) => Err(fault),
+        Ok(Part::Failed(refusal)) => Err(Fault::Refused(refusal.into_inner())),
+        Err(Fault::Refused(refusal)) => Err(Fault::Refused(refusal.into_inner())),
+        Err(Fault::NoMemory) => Err(Fault::NoMemory),
     }
 }

@@ -1,6 +1,7 @@
 //! What is known of a part of a term: its table, or why one of its operators is refused.
 
 ghost use Rattle.std.specs.Prelude.{◌≡◌, IfOk, Option};
+ghost use Rattle.omos_model.specs.Expansion.{site_of};
 ghost use Rattle.omos_model.specs.Term.{Term, Merge, Override, Apply};
 ghost use Rattle.omos_model.specs.declared.refusal.Refusal.{Refusal as Cause};
 ghost use Rattle.omos_model.specs.declared.refusal.Site.{Site as Place};
@@ -9,11 +10,13 @@ ghost use Rattle.module_eval.specs.Meant.{AreBuilt, Means, MeansWhere};
 ghost use Rattle.module_eval.specs.Operators.{op_of};
 ghost use Rattle.module_eval.specs.Walked.{term_with};
 
-use crate::node::twin;
+use crate::node::site;
 use crate::operator::{Operator, operate};
 use module_table::{Table, TableFault};
-use omos_base::{Fault, NoMemory};
+use omos_base::{Fault, NoMemory, PathName};
 use omos_model::{Refusal, Site};
+use sqlite_items::Boxed;
+use std::alloc::Global;
 
 /// A part of a term, all of whose operators were applied up to the first that is refused.
 #[derive(Drop)]
@@ -21,7 +24,7 @@ pub enum Part {
     /// No operator is refused.
     Built(Table),
     /// The first refusal, in post-order, left to right.
-    Failed(Refusal),
+    Failed(Boxed<Refusal>),
 }
 
 /// How two modules are put together.
@@ -43,20 +46,29 @@ fn refusal(site: Site, fault: TableFault) -> Refusal
     }
 }
 
-/// What a node's operator answered, as a part.
-fn answered(site: &Site, answer: Result<Table, Fault<TableFault>>) -> Result<Part, NoMemory>
-    ensures { (t : Term) (refused : Option Cause) → Answers answer site.now t refused
+/// What the operator at a node of the blueprint `at` answered, as a part.
+#[inline(never)]
+fn answered(
+    alloc: Global,
+    at: &PathName,
+    node: u32,
+    answer: Result<Table, Fault<TableFault>>,
+) -> Result<Part, NoMemory>
+    ensures { (t : Term) (refused : Option Cause) → Answers answer (site_of at.now node) t refused
         → IfOk result (λ part. MeansWhere part t refused) }
 {
     match answer {
         Ok(table) => Ok(Part::Built(table)),
-        Err(Fault::Refused(fault)) => Ok(Part::Failed(refusal(twin(site), fault))),
+        Err(Fault::Refused(fault)) => {
+            let refusal = refusal(site(at, node), fault);
+            Ok(Part::Failed(Boxed::new(alloc, refusal)?))
+        }
         Err(Fault::NoMemory) => Err(NoMemory),
     }
 }
 
 /// Both tables, or the refusal that comes first.
-fn tables(left: Part, right: Part) -> Result<(Table, Table), Refusal>
+fn tables(left: Part, right: Part) -> Result<(Table, Table), Boxed<Refusal>>
     ensures { AreBuilt result left right }
 {
     match left {
@@ -69,12 +81,18 @@ fn tables(left: Part, right: Part) -> Result<(Table, Table), Refusal>
 }
 
 /// Both modules together.
-pub fn merge(site: &Site, left: Part, right: Part) -> Result<Part, NoMemory>
+pub fn merge(
+    alloc: Global,
+    at: &PathName,
+    node: u32,
+    left: Part,
+    right: Part,
+) -> Result<Part, NoMemory>
     ensures { (l r : Term) → Means left l → Means right r
-        → IfOk result (λ part. Means part (Merge site.now l r)) }
+        → IfOk result (λ part. Means part (Merge (site_of at.now node) l r)) }
 {
     match tables(left, right) {
-        Ok((left, right)) => answered(site, Table::merge(left, right)),
+        Ok((left, right)) => answered(alloc, at, node, Table::merge(left, right)),
         Err(refusal) => Ok(Part::Failed(refusal)),
     }
 }
@@ -91,23 +109,36 @@ pub fn override_by(left: Part, right: Part) -> Result<Part, NoMemory>
 }
 
 /// Both modules, joined so.
-pub fn combine(join: Join, site: &Site, left: Part, right: Part) -> Result<Part, NoMemory>
+pub fn combine(
+    alloc: Global,
+    join: Join,
+    at: &PathName,
+    node: u32,
+    left: Part,
+    right: Part,
+) -> Result<Part, NoMemory>
     ensures { (l r : Term) → Means left l → Means right r
-        → IfOk result (λ part. Means part (term_with join site.now l r)) }
+        → IfOk result (λ part. Means part (term_with join (site_of at.now node) l r)) }
 {
     match join {
-        Join::Merge => merge(site, left, right),
+        Join::Merge => merge(alloc, at, node, left, right),
         Join::Override => override_by(left, right),
     }
 }
 
 /// The module under an operator.
-pub fn apply(site: &Site, operator: Operator<'_>, part: Part) -> Result<Part, NoMemory>
+pub fn apply(
+    alloc: Global,
+    at: &PathName,
+    node: u32,
+    operator: Operator<'_>,
+    part: Part,
+) -> Result<Part, NoMemory>
     ensures { (t : Term) → Means part t
-        → IfOk result (λ p. Means p (Apply site.now (op_of operator.entry) t)) }
+        → IfOk result (λ p. Means p (Apply (site_of at.now node) (op_of operator.entry) t)) }
 {
     match part {
-        Part::Built(table) => answered(site, operate(operator, table)),
+        Part::Built(table) => answered(alloc, at, node, operate(operator, table)),
         Part::Failed(refusal) => Ok(Part::Failed(refusal)),
     }
 }

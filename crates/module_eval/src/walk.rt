@@ -2,14 +2,15 @@
 
 ghost use Rattle.std.specs.Prelude.{◌≡◌, ◌+◌, ◌-◌, ◌<◌, ◌≤◌, [], ◌∷◌, true, length, map, IsTrue, Ok, OnOk};
 ghost use Rattle.std.specs.Prelude.{Some};
-ghost use Rattle.omos_model.specs.Expansion.{Blueprint, add_read, and_then, begin_path, here, leaf};
-ghost use Rattle.omos_model.specs.Expansion.{source};
+ghost use Rattle.omos_model.specs.Expansion.{Blueprint, add_read, and_then, begin_path, leaf};
+ghost use Rattle.omos_model.specs.Expansion.{site_of, source};
 ghost use Rattle.omos_model.specs.FragmentParts.{FragmentParts};
 ghost use Rattle.omos_model.specs.ImageParts.{is_formed};
 ghost use Rattle.omos_model.specs.NameLists.{is_among};
 ghost use Rattle.omos_model.specs.Term.{Term};
 ghost use Rattle.omos_model.specs.Tree.{Apply, Tree, merge_of, tree_of};
 ghost use Rattle.omos_model.specs.declared.visit.Visit.{Visit};
+ghost use Rattle.module_table.specs.Faults.{Tells};
 ghost use Rattle.module_table.specs.Stands.{IsObject};
 ghost use Rattle.module_eval.specs.Counted.{AreCounted, visit_of};
 ghost use Rattle.module_eval.specs.Meant.{Means};
@@ -18,14 +19,15 @@ ghost use Rattle.module_eval.specs.Walked.{Bars, Walked, are_formed, path_in, tr
 ghost use Rattle.module_eval.specs.Walked.{with_operands};
 
 use crate::counts::{Counts, begin_node, count_leaf, enter};
-use crate::node::site;
+use crate::node::{Stop, site, stopped};
 use crate::operator::Operator;
 use crate::part::{self, Join, Part};
 use module_table::Table;
 use name_tree::Snap;
-use omos_base::{Fault, PathName, Shared};
-use omos_model::{Entry, Expr, Image, Refusal, Site};
+use omos_base::{PathName, Shared};
+use omos_model::{Entry, Expr, Image, Refusal};
 use sqlite_items::Items;
+use std::alloc::Global;
 
 const MAX_BLUEPRINTS: usize = 32;
 
@@ -35,21 +37,36 @@ fn is_among(paths: &[PathName], path: &PathName) -> bool
     paths.iter().any(|other| *path == *other)
 }
 
+/// The path leads nowhere.
+#[inline(never)]
+fn no_entry(alloc: Global, at: &PathName, node: u32, path: &PathName) -> Stop
+    ensures { Tells result (Refusal.NoEntry (site_of at.now node) path.now) }
+{
+    let refusal = Refusal::NoEntry {
+        site: site(at, node),
+        path: path.copy(),
+    };
+    stopped(alloc, refusal)
+}
+
 /// Why the blueprint may not be opened: it is open already, or 32 others are.
-fn bar(above: &[PathName], at: &PathName, path: &PathName, node: u32) -> Option<Refusal>
+#[inline(never)]
+fn bar(alloc: Global, above: &[PathName], at: &PathName, path: &PathName, node: u32) -> Option<Stop>
     ensures { Bars result above.now at.now path.now node }
 {
     if is_among(above, path) {
-        return Some(Refusal::Cycle {
+        let refusal = Refusal::Cycle {
             site: site(at, node),
             path: path.copy(),
-        });
+        };
+        return Some(stopped(alloc, refusal));
     }
     if above.len() >= MAX_BLUEPRINTS {
-        return Some(Refusal::TooDeep {
+        let refusal = Refusal::TooDeep {
             site: site(at, node),
             path: path.copy(),
-        });
+        };
+        return Some(stopped(alloc, refusal));
     }
     None
 }
@@ -71,7 +88,7 @@ fn visit_object(
     path: &PathName,
     entry: &Shared<Entry>,
     counts: &mut Counts,
-) -> Result<Part, Fault<Refusal>>
+) -> Result<Part, Stop>
     requires object { IsObject entry.now }
     requires counted { AreCounted counts.old }
     ensures walk { (f : FragmentParts) → entry.now ≡ Entry.Object f → Walked result
@@ -83,10 +100,9 @@ fn visit_object(
     let Entry::Object(fragment) = entry.get() else {
         unreachable!()
     };
-    let site = enter(counted, at, path, counts)?;
-    let number = count_leaf(&site, fragment, counts)?;
-    let alloc = *counts.read.allocator();
-    let table = Table::leaf(alloc, number, entry.twin()?)?;
+    let node = enter(counted, at, path, counts)?;
+    let number = count_leaf(at, node, fragment, counts)?;
+    let table = Table::leaf(counts.alloc(), number, entry.twin()?)?;
     Ok(Part::Built(table))
 }
 
@@ -102,7 +118,7 @@ pub fn visit_path(
     at: &PathName,
     path: &PathName,
     counts: &mut Counts,
-) -> Result<Part, Fault<Refusal>>
+) -> Result<Part, Stop>
     requires counted { AreCounted counts.old }
     requires room { length above.old ≤ 32 }
     ensures walk { Walked result
@@ -112,10 +128,7 @@ pub fn visit_path(
     ensures least { counts.old.nodes ≤ counts.new.nodes }
 {
     let Some(found) = snap.get(path) else {
-        return Err(Fault::Refused(Refusal::NoEntry {
-            site: site(at, counts.node),
-            path: path.copy(),
-        }));
+        return Err(no_entry(counts.alloc(), at, counts.node, path));
     };
     match found.entry.get() {
         Entry::Object(_) => visit_object(counted, at, path, &found.entry, counts),
@@ -135,7 +148,7 @@ fn visit_blueprint(
     path: &PathName,
     image: &Image,
     counts: &mut Counts,
-) -> Result<Part, Fault<Refusal>>
+) -> Result<Part, Stop>
     requires counted { AreCounted counts.old }
     requires room { length above.old ≤ 32 }
     requires there { source snap.now path.now ≡ Some (Blueprint (tree_of image.now.body)) }
@@ -145,8 +158,8 @@ fn visit_blueprint(
     ensures above { OnOk result (above.new ≡ above.old) }
     ensures least { counts.old.nodes ≤ counts.new.nodes }
 {
-    if let Some(refusal) = bar(above.as_slice(), at, path, counts.node) {
-        return Err(Fault::Refused(refusal));
+    if let Some(barred) = bar(counts.alloc(), above.as_slice(), at, path, counts.node) {
+        return Err(barred);
     }
     enter(counted, at, path, counts)?;
     above.push(path.copy())?;
@@ -166,7 +179,7 @@ fn visit_expr(
     at: &PathName,
     expr: &Expr,
     counts: &mut Counts,
-) -> Result<Part, Fault<Refusal>>
+) -> Result<Part, Stop>
     requires counted { AreCounted counts.old }
     requires room { length above.old ≤ 32 }
     requires formed { IsTrue (is_formed expr.now) }
@@ -230,7 +243,7 @@ fn visit_under(
     operator: Operator<'_>,
     body: &Expr,
     counts: &mut Counts,
-) -> Result<Part, Fault<Refusal>>
+) -> Result<Part, Stop>
     requires counted { AreCounted counts.old }
     requires room { length above.old ≤ 32 }
     requires formed { IsTrue (is_formed body.now) }
@@ -240,9 +253,9 @@ fn visit_under(
     ensures above { OnOk result (above.new ≡ above.old) }
     ensures least { counts.old.nodes ≤ counts.new.nodes }
 {
-    let site = begin_node(at, counts)?;
+    let node = begin_node(at, counts)?;
     let part = visit_expr(snap, above, at, body, counts)?;
-    Ok(part::apply(&site, operator, part)?)
+    Ok(part::apply(counts.alloc(), at, node, operator, part)?)
 }
 
 /// Goes through two modules that are joined.
@@ -255,7 +268,7 @@ fn visit_two(
     left: &Expr,
     right: &Expr,
     counts: &mut Counts,
-) -> Result<Part, Fault<Refusal>>
+) -> Result<Part, Stop>
     requires counted { AreCounted counts.old }
     requires room { length above.old ≤ 32 }
     requires formed_left { IsTrue (is_formed left.now) }
@@ -267,10 +280,10 @@ fn visit_two(
     ensures more { OnOk result (counts.old.nodes + 1 ≤ counts.new.nodes) }
     ensures least { counts.old.nodes ≤ counts.new.nodes }
 {
-    let site = begin_node(at, counts)?;
+    let node = begin_node(at, counts)?;
     let left = visit_expr(snap, above, at, left, counts)?;
     let right = visit_expr(snap, above, at, right, counts)?;
-    Ok(part::combine(join, &site, left, right)?)
+    Ok(part::combine(counts.alloc(), join, at, node, left, right)?)
 }
 
 /// Goes through the operands of a merge, of which there are at least two.
@@ -281,7 +294,7 @@ fn visit_operands(
     at: &PathName,
     operands: &[Expr],
     counts: &mut Counts,
-) -> Result<Part, Fault<Refusal>>
+) -> Result<Part, Stop>
     requires counted { AreCounted counts.old }
     requires room { length above.old ≤ 32 }
     requires two { 2 ≤ length operands.now }
@@ -295,27 +308,27 @@ fn visit_operands(
     let [first, second, rest @ ..] = operands else {
         unreachable!()
     };
-    let here = site(at, counts.node);
+    let node = counts.node;
     let two = visit_two(snap, above, at, Join::Merge, first, second, counts)?;
-    visit_more(snap, above, at, &here, two, rest, counts)
+    visit_more(snap, above, at, node, two, rest, counts)
 }
 
-/// Goes through further operands of the merge at `site`, of which `left` is what stands to the
-/// left.
+/// Goes through further operands of the merge at a node of the blueprint `at`; `left` is what
+/// stands to their left.
 #[cycle(visits)]
 fn visit_more(
     snap: &Snap,
     above: &mut Items<PathName>,
     at: &PathName,
-    site: &Site,
+    node: u32,
     left: Part,
     operands: &[Expr],
     counts: &mut Counts,
-) -> Result<Part, Fault<Refusal>>
+) -> Result<Part, Stop>
     requires counted { AreCounted counts.old }
     requires room { length above.old ≤ 32 }
     requires formed { IsTrue (are_formed operands.now) }
-    ensures walk { (x : Tree) (v : Visit) (t : Term) → site.now ≡ here at.now v
+    ensures walk { (x : Tree) (v : Visit) (t : Term) → node ≡ v.node
         → tree_in snap.now above.old at.now x v ≡ Ok (t, visit_of counts.old) → Means left t
         → Walked result
         (tree_in snap.now above.old at.now (with_operands x operands.now) v) counts.new }
@@ -326,7 +339,7 @@ fn visit_more(
     let mut left = left;
     'operands: for operand in operands {
         let right = visit_expr(snap, above, at, operand, counts)?;
-        left = part::merge(site, left, right)?;
+        left = part::merge(counts.alloc(), at, node, left, right)?;
     }
     Ok(left)
 }

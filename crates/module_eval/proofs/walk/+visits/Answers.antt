@@ -1,16 +1,16 @@
-use Rattle.std.proofs.Common.{◌∙◌, suc, true, Ok, ◌-◌, ◌++◌, ◌∷◌, [], map, take, drop, length, sym, ap, subst, refl, arith}
+use Rattle.std.proofs.Common.{◌∙◌, ℕ, suc, true, Ok, ◌-◌, ◌++◌, ◌∷◌, [], map, take, drop, length, sym, ap, subst, refl, arith}
 use Rattle.std.proofs.lemmas.Result.{err_from_is_err_and}
-use Rattle.omos_model.specs.Expansion.{begin_path, add_read, here, nested, source, visit}
+use Rattle.omos_model.specs.Expansion.{begin_path, add_read, here, nested, site_of, source, visit}
 use Rattle.omos_model.specs.Term.{Apply, Merge}
 use Rattle.omos_model.specs.Tree as tree
 use Rattle.omos_model.specs.Tree.{Tree, merge_of, tree_of}
-use Rattle.omos_model.specs.declared.refusal.Site.{Site}
+use Rattle.omos_model.specs.declared.refusal.Refusal.TheVariants.{NoEntry}
 use Rattle.module_eval.specs.Counted.{visit_of}
 use Rattle.module_eval.specs.Meant.{Means}
 use Rattle.module_eval.specs.Operators.{op_of}
 use Rattle.module_eval.specs.Walked.{path_in, term_with, tree_in, with_operands}
 use Rattle.module_eval.proofs.Operands.{err_to_left, more_on, one_more, split_at, tree_of-Merge, two_of, two_walked}
-use Rattle.module_eval.proofs.Paths.{barred, err_on_step, err_on_walk, none_at, object_at, opened, refused_inside, source_at, source_none, walked_inside}
+use Rattle.module_eval.proofs.Paths.{barred, err_on_step, err_on_walk, none_at, object_at, opened, refused_inside, source_at, source_none, told, walked_inside}
 use Rattle.module_eval.proofs.walk.+visits.Goals as goal
 
 -- ---- a path
@@ -18,7 +18,7 @@ use Rattle.module_eval.proofs.walk.+visits.Goals as goal
 pub visit_path-returns-in_default-clause-walk : goal.visit_path-returns-in_default-clause-walk
 visit_path-returns-in_default-clause-walk t c =
     let above = c.args.above.now in
-    rw (c.site.ensures, c.copy.ensures)
+    told c.no_entry.result (NoEntry (here c.args.at.now (visit_of c.args.counts.now)) c.args.path.now) _ c.args.counts.now c.no_entry.ensures
     (none_at (source c.args.snap.now) above c.args.counted c.args.at.now c.args.path.now (visit_of c.args.counts.now) (32 - length above)
     (source_none c.args.snap.now c.args.path.now c.in_default.ensures))
 
@@ -42,16 +42,16 @@ visit_two-returns-clause-walk t c =
     let path = path_in c.args.snap.now c.args.above.now true at in
     let l = c.in_ok-left.ensures.walk in
     let r = rw c.in_ok-left.ensures.above at c.in_ok-right.ensures.walk in (
-      term_with c.args.join c.in_ok-site.site l.0 r.0,
-      two_walked c.args.join at path (tree_of c.args.left.now) (tree_of c.args.right.now) c.in_ok-site.site l.0 r.0 _ _ _ _ c.in_ok-site.ensures.walk l.1 r.1,
+      term_with c.args.join (site_of at c.in_ok-node.node) l.0 r.0,
+      two_walked c.args.join at path (tree_of c.args.left.now) (tree_of c.args.right.now) (site_of at c.in_ok-node.node) l.0 r.0 _ _ _ _ c.in_ok-node.ensures.walk l.1 r.1,
       c.in_ok-combine.ensures l.0 r.0 l.2 r.2,
     )
 
 pub visit_under-returns-clause-walk : goal.visit_under-returns-clause-walk
 visit_under-returns-clause-walk t c =
     let w = c.in_ok-part.ensures.walk in (
-      Apply c.in_ok-site.site (op_of c.args.operator) w.0,
-      rw (c.in_ok-site.ensures.walk, w.1) refl,
+      Apply (site_of c.args.at.now c.in_ok-node.node) (op_of c.args.operator) w.0,
+      rw (c.in_ok-node.ensures.walk, w.1) refl,
       c.in_ok-apply.ensures w.0 w.2,
     )
 
@@ -59,7 +59,7 @@ visit_under-returns-clause-walk t c =
 
 pub visit_blueprint-returns-in-Some-clause-walk : goal.visit_blueprint-returns-in-Some-clause-walk
 visit_blueprint-returns-in-Some-clause-walk t c =
-    barred (source c.args.snap.now) c.as_slice.result.now c.args.above.now c.args.counted c.args.at.now c.args.path.now (visit_of c.args.counts.now) (tree_of c.args.image.now.body) c.in-Some.refusal c.as_slice.ensures c.requires.there c.in-Some.ensures
+    barred (source c.args.snap.now) c.as_slice.result.now c.args.above.now c.args.counted c.args.at.now c.args.path.now (visit_of c.args.counts.now) (tree_of c.args.image.now.body) c.in-Some.barred c.args.counts.now c.as_slice.ensures c.requires.there c.in-Some.ensures
 
 pub visit_blueprint-returns-in_err-enter-clause-walk : goal.visit_blueprint-returns-in_err-enter-clause-walk
 visit_blueprint-returns-in_err-enter-clause-walk t c =
@@ -71,7 +71,7 @@ visit_blueprint-returns-in_err-enter-clause-walk t c =
     let x = tree_of c.args.image.now.body in
     let q = err_from_is_err_and c.from_residual.result c.from_residual.ensures.1 in
     rw (q.1, q.2, opened ns c.as_slice.result.now above c.args.counted at p v x c.requires.there c.as_slice.ensures c.in_default.ensures)
-    (err_on_step c.in_err-enter.field-0.0 (begin_path c.args.counted at (add_read p v)) (λ s. nested (tree_in ns (above ++ p ∷ []) p x)) c.enter.new.counts c.enter.new.counts c.in_err-enter.ensures.walk)
+    (err_on_step c.in_err-enter.field-0.0 at (begin_path c.args.counted at (add_read p v)) (λ s. nested (tree_in ns (above ++ p ∷ []) p x)) c.enter.new.counts c.enter.new.counts c.in_err-enter.ensures.walk)
 
 pub visit_blueprint-returns-in_err-part-clause-walk : goal.visit_blueprint-returns-in_err-part-clause-walk
 visit_blueprint-returns-in_err-part-clause-walk t c =
@@ -79,13 +79,13 @@ visit_blueprint-returns-in_err-part-clause-walk t c =
     let walked = rw (c.in_ok-push.ensures.ok, c.copy.ensures, c.body.ensures.body) at c.in_err-part.ensures.walk in
     rw (q.1, q.2)
     (refused_inside c.args.snap.now c.as_slice.result.now c.args.above.now c.args.counted c.args.at.now c.args.path.now (visit_of c.args.counts.now) (tree_of c.args.image.now.body) c.requires.there c.as_slice.ensures c.in_default.ensures
-    c.in_err-part.field-0.0 c.in_ok-enter.field-0 c.enter.new.counts c.visit_expr.new.counts c.visit_expr.new.counts c.in_ok-enter.ensures.walk walked)
+    c.in_err-part.field-0.0 (site_of c.args.at.now c.in_ok-enter.field-0) c.enter.new.counts c.visit_expr.new.counts c.visit_expr.new.counts c.in_ok-enter.ensures.walk walked)
 
 pub visit_blueprint-returns-clause-walk : goal.visit_blueprint-returns-clause-walk
 visit_blueprint-returns-clause-walk t c =
     let walked = rw (c.in_ok-push.ensures.ok, c.copy.ensures, c.body.ensures.body) at c.in_ok-part.ensures.walk in
     walked_inside c.args.snap.now c.as_slice.result.now c.args.above.now c.args.counted c.args.at.now c.args.path.now (visit_of c.args.counts.now) (tree_of c.args.image.now.body) c.requires.there c.as_slice.ensures c.in_default.ensures
-    c.in_ok-part.part c.in_ok-enter.field-0 c.enter.new.counts c.visit_expr.new.counts c.in_ok-enter.ensures.walk walked
+    c.in_ok-part.part (site_of c.args.at.now c.in_ok-enter.field-0) c.enter.new.counts c.visit_expr.new.counts c.in_ok-enter.ensures.walk walked
 
 -- ---- further operands
 
@@ -139,7 +139,7 @@ visit_more-operands-preserved t c =
             Merge (here at v) g.0 k.0,
             ap (λ z. tree_in ns above at z v) (one_more left xs i x (omega arith) c.operand-item.is)
                 ∙ more_on at path v (with_operands left (take i xs)) (tree_of x) g.0 k.0 _ _ g.1 k.1,
-            subst (λ (s : Site). Means c.in_ok-left.left (Merge s g.0 k.0)) e (c.in_ok-left.ensures g.0 k.0 g.2 k.2),
+            subst (λ (n : ℕ). Means c.in_ok-left.left (Merge (site_of at n) g.0 k.0)) e (c.in_ok-left.ensures g.0 k.0 g.2 k.2),
           );
       counted = c.in_ok-right.ensures.counted;
       above = c.in_ok-right.ensures.above ∙ inv.above;

@@ -1,5 +1,4 @@
 use Rattle.std.proofs.Common.{◌≡◌, ◌+◌, ◌-◌, ◌*◌, ◌≤◌, length, Ok, take}
-use Rattle.omos_model.specs.Expansion.{here}
 use Rattle.omos_model.specs.Term.{Term}
 use Rattle.omos_model.specs.Tree.{Tree}
 use Rattle.omos_model.specs.declared.visit.Visit.{Visit}
@@ -42,7 +41,7 @@ abbrev pub invariant-visit_more-operands : goal.invariant-visit_more-operands
 invariant-visit_more-operands l =
     record {
       walked :
-          (x : Tree) (v : Visit) (t : Term) → l.site ≡ here l.at v
+          (x : Tree) (v : Visit) (t : Term) → l.node ≡ v.node
           → tree_in l.snap l.fn.above l.at x v ≡ Ok (t, visit_of l.fn.counts) → Means l.fn.left t
           → (u : Term)
           × (tree_in l.snap l.fn.above l.at (with_operands x (take l.operand-index l.operands)) v ≡ Ok (u, visit_of l.counts))
