@@ -17,7 +17,8 @@ module _ (plan : Plan) (base : ℕ) (table : SlotTable) (leaves : List Entry) wh
   abbrev pub filled_byte : ℕ → Option ℕ
   filled_byte x =
       option_or (last_byte plan.places table base (references plan.parts) x)
-      (option_or (slots_byte plan.places base plan.slots (slots_begin plan.parts) (length plan.slots) x)
+      (option_or
+      (slots_byte plan.places base plan.slots (slots_begin plan.parts) (length plan.slots) x)
       (first_byte (placed_in plan.places leaves) x))
 
   -- the reason for which a value doesn't fit, if there is one

@@ -8,8 +8,7 @@ ghost use Rattle.link_model.specs.Layout.{target_at};
 ghost use Rattle.link_model.specs.Module.{part_with};
 ghost use Rattle.link_model.specs.Program.{reference_of, references};
 ghost use Rattle.image_write.specs.Addresses.{AreLow, address_in, max_place, row_in, slot_in};
-ghost use Rattle.image_write.specs.Fields.{AreFieldsInside, IsFieldInside, Patches};
-ghost use Rattle.image_write.specs.Fields.{references_of};
+ghost use Rattle.image_write.specs.Fields.{AreFieldsInside, IsFieldInside, Patches, references_of};
 
 use crate::addresses::{address_in, place_at, row_in};
 use crate::slots::SlotTable;
@@ -37,8 +36,8 @@ fn address_at(ground: &Ground, landing: &Landing) -> u64
     }
 }
 
-/// The number that a field at this address gets, if the value fits. A kind asks for the address of
-/// the target's slot or for the target's own; the other isn't looked up.
+/// The number that a field at this address gets, if the value fits. Its kind asks for the address
+/// of the target or of the target's slot; the other isn't looked up, and counts as 0.
 fn value_at(ground: &Ground, p: u64, fixup: &Fixup, landing: &Landing) -> Option<u64>
     requires low { AreLow ground.now.places.now }
     requires base { ground.now.base ≤ max_place }
@@ -86,7 +85,7 @@ fn patch(
     Ok(())
 }
 
-/// Writes the fields of a leaf. It is a function of its own, whose loop has the registers.
+/// Writes the fields of a leaf. It isn't inlined, so that its loop keeps its values in registers.
 #[inline(never)]
 fn patch_leaf(
     body: &mut [u8],

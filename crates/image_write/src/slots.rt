@@ -39,7 +39,8 @@ impl SlotTable {
         })
     }
 
-    /// The address of a target's slot: one look-up.
+    /// The address of a target's slot: one look-up. It isn't inlined, so that a loop over
+    /// references stays short where few ask for a slot.
     #[inline(never)]
     pub fn address(&self, target: Target) -> u64
         ensures { result ≡ slot_in self.now target }
