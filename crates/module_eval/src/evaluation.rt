@@ -68,7 +68,9 @@ pub fn evaluate(alloc: Global, snap: &Snap, path: &PathName) -> Result<Evaluated
 {
     let mut counts = Counts::new(alloc);
     match expand(alloc, snap, path, &mut counts) {
-        Ok(Part::Built(table)) => { Ok(finish(alloc, snap, path, &table, counts.read.as_slice())?) }
+        Ok(Part::Built(table)) => {
+            Ok(finish(alloc, snap, path, table.get(), counts.read.as_slice())?)
+        }
         Ok(Part::Failed(refusal)) => Err(Fault::Refused(refusal.into_inner())),
         Err(Fault::Refused(refusal)) => Err(Fault::Refused(refusal.into_inner())),
         Err(Fault::NoMemory) => Err(Fault::NoMemory),

@@ -18,11 +18,12 @@ use omos_model::{Refusal, Site};
 use sqlite_items::Boxed;
 use std::alloc::Global;
 
-/// A part of a term, all of whose operators were applied up to the first that is refused.
+/// A part of a term, all of whose operators were applied up to the first that is refused. It is
+/// small, since one stands at each depth of a walk.
 #[derive(Drop)]
 pub enum Part {
     /// No operator is refused.
-    Built(Table),
+    Built(Boxed<Table>),
     /// The first refusal, in post-order, left to right.
     Failed(Boxed<Refusal>),
 }
@@ -58,7 +59,7 @@ fn answered(
         → IfOk result (λ part. MeansWhere part t refused) }
 {
     match answer {
-        Ok(table) => Ok(Part::Built(table)),
+        Ok(table) => Ok(Part::Built(Boxed::new(alloc, table)?)),
         Err(Fault::Refused(fault)) => {
             let refusal = refusal(site(at, node), fault);
             Ok(Part::Failed(Boxed::new(alloc, refusal)?))
@@ -73,7 +74,7 @@ fn tables(left: Part, right: Part) -> Result<(Table, Table), Boxed<Refusal>>
 {
     match left {
         Part::Built(left) => match right {
-            Part::Built(right) => Ok((left, right)),
+            Part::Built(right) => Ok((left.into_inner(), right.into_inner())),
             Part::Failed(refusal) => Err(refusal),
         },
         Part::Failed(refusal) => Err(refusal),
@@ -81,6 +82,7 @@ fn tables(left: Part, right: Part) -> Result<(Table, Table), Boxed<Refusal>>
 }
 
 /// Both modules together.
+#[inline(never)]
 pub fn merge(
     alloc: Global,
     at: &PathName,
@@ -98,17 +100,21 @@ pub fn merge(
 }
 
 /// Both modules, where the right one's definitions win.
-pub fn override_by(left: Part, right: Part) -> Result<Part, NoMemory>
+fn override_by(alloc: Global, left: Part, right: Part) -> Result<Part, NoMemory>
     ensures { (s : Place) (l r : Term) → Means left l → Means right r
         → IfOk result (λ part. Means part (Override s l r)) }
 {
     match tables(left, right) {
-        Ok((left, right)) => Ok(Part::Built(Table::override_by(left, right)?)),
+        Ok((left, right)) => {
+            let table = Table::override_by(left, right)?;
+            Ok(Part::Built(Boxed::new(alloc, table)?))
+        }
         Err(refusal) => Ok(Part::Failed(refusal)),
     }
 }
 
 /// Both modules, joined so.
+#[inline(never)]
 pub fn combine(
     alloc: Global,
     join: Join,
@@ -122,11 +128,12 @@ pub fn combine(
 {
     match join {
         Join::Merge => merge(alloc, at, node, left, right),
-        Join::Override => override_by(left, right),
+        Join::Override => override_by(alloc, left, right),
     }
 }
 
 /// The module under an operator.
+#[inline(never)]
 pub fn apply(
     alloc: Global,
     at: &PathName,
@@ -138,7 +145,7 @@ pub fn apply(
         → IfOk result (λ p. Means p (Apply (site_of at.now node) (op_of operator.entry) t)) }
 {
     match part {
-        Part::Built(table) => answered(alloc, at, node, operate(operator, table)),
+        Part::Built(table) => answered(alloc, at, node, operate(operator, table.into_inner())),
         Part::Failed(refusal) => Ok(Part::Failed(refusal)),
     }
 }

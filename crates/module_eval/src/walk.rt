@@ -26,7 +26,7 @@ use module_table::Table;
 use name_tree::Snap;
 use omos_base::{PathName, Shared};
 use omos_model::{Entry, Expr, Image, Refusal};
-use sqlite_items::Items;
+use sqlite_items::{Boxed, Items};
 use std::alloc::Global;
 
 const MAX_BLUEPRINTS: usize = 32;
@@ -82,6 +82,7 @@ fn operands_of(operands: &Items<Expr>) -> &[Expr]
 }
 
 /// The object of a path as a leaf.
+#[inline(never)]
 fn visit_object(
     counted: bool,
     at: &PathName,
@@ -102,8 +103,9 @@ fn visit_object(
     };
     let node = enter(counted, at, path, counts)?;
     let number = count_leaf(at, node, fragment, counts)?;
-    let table = Table::leaf(counts.alloc(), number, entry.twin()?)?;
-    Ok(Part::Built(table))
+    let alloc = counts.alloc();
+    let table = Table::leaf(alloc, number, entry.twin()?)?;
+    Ok(Part::Built(Boxed::new(alloc, table)?))
 }
 
 /// Goes to a path at a node of the blueprint `at`, inside the blueprints `above`.
