@@ -4,7 +4,8 @@ use Rattle.std.specs.Prelude.{fold, length, Option, Some, None, Result, Ok, Err}
 use Rattle.std.specs.List.{list_all}
 use Rattle.omos_base.specs.declared.fault.Fault.{Fault}
 use Rattle.omos_base.specs.declared.fault.Fault.TheVariants.{Refused, NoMemory}
-use Rattle.omos_model.specs.Expansion.{Visited, Visitor, visit, expand, max_blueprints, site_of, source}
+use Rattle.omos_model.specs.Expansion.{Visited, Visitor, visit, expand, max_blueprints}
+use Rattle.omos_model.specs.Expansion.{site_of, source}
 use Rattle.omos_model.specs.ImageParts.{is_formed}
 use Rattle.omos_model.specs.Names.{Name}
 use Rattle.omos_model.specs.NameLists.{is_among}
@@ -57,7 +58,8 @@ with_operands x operands = fold tree.More x (map tree_of operands)
 abbrev pub Bars : Option (Fault Refusal) → List Name → Name → Name → ℕ → Type 0
 Bars None above at p node = (is_among above p ≡ false) × (length above < max_blueprints)
 Bars (Some fault) above at p node =
-    Tells fault (if is_among above p then Cycle (site_of at node) p else TooDeep (site_of at node) p)
+    Tells fault
+    (if is_among above p then Cycle (site_of at node) p else TooDeep (site_of at node) p)
     × (is_among above p ≡ false → max_blueprints ≤ length above)
 
 -- each merge in them has at least two operands

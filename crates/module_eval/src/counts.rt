@@ -1,7 +1,8 @@
 //! How far a walk through expressions has come.
 
 ghost use Rattle.std.specs.Prelude.{◌≡◌, ◌+◌, ◌≤◌, OnOk};
-ghost use Rattle.omos_model.specs.Expansion.{add_read, begin, begin_path, first_visit, leaf, site_of};
+ghost use Rattle.omos_model.specs.Expansion.{add_read, begin, begin_path, first_visit};
+ghost use Rattle.omos_model.specs.Expansion.{leaf, site_of};
 ghost use Rattle.module_table.specs.Faults.{Tells};
 ghost use Rattle.module_eval.specs.Counted.{AreCounted, StepsToLeaf, StepsToNode, visit_of};
 
@@ -88,7 +89,8 @@ pub fn begin_node(at: &PathName, counts: &mut Counts) -> Result<u32, Stop>
 
 fn begin_if(counted: bool, at: &PathName, counts: &mut Counts) -> Result<u32, Stop>
     requires { AreCounted counts.old }
-    ensures walk { StepsToNode result at.now (begin_path counted at.now (visit_of counts.old)) counts.new }
+    ensures walk { StepsToNode result at.now
+        (begin_path counted at.now (visit_of counts.old)) counts.new }
     ensures counted { AreCounted counts.new }
     ensures least { counts.old.nodes ≤ counts.new.nodes }
 {

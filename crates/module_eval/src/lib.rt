@@ -8,6 +8,8 @@ mod counts;
 mod evaluation;
 mod footprint;
 mod node;
+mod object;
+mod opening;
 mod operator;
 mod part;
 mod terms;

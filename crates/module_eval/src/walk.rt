@@ -1,75 +1,27 @@
 //! The walk through the expressions of blueprints, from left to right, outer before inner.
 
-ghost use Rattle.std.specs.Prelude.{◌≡◌, ◌+◌, ◌-◌, ◌<◌, ◌≤◌, [], ◌∷◌, true, length, map, IsTrue, Ok, OnOk};
-ghost use Rattle.std.specs.Prelude.{Some};
-ghost use Rattle.omos_model.specs.Expansion.{Blueprint, add_read, and_then, begin_path, leaf};
-ghost use Rattle.omos_model.specs.Expansion.{site_of, source};
-ghost use Rattle.omos_model.specs.FragmentParts.{FragmentParts};
+ghost use Rattle.std.specs.Prelude.{◌≡◌, ◌+◌, ◌≤◌, true, length, map, IsTrue, Ok, OnOk, Some};
+ghost use Rattle.omos_model.specs.Expansion.{Blueprint, source};
 ghost use Rattle.omos_model.specs.ImageParts.{is_formed};
-ghost use Rattle.omos_model.specs.NameLists.{is_among};
 ghost use Rattle.omos_model.specs.Term.{Term};
 ghost use Rattle.omos_model.specs.Tree.{Apply, Tree, merge_of, tree_of};
 ghost use Rattle.omos_model.specs.declared.visit.Visit.{Visit};
-ghost use Rattle.module_table.specs.Faults.{Tells};
-ghost use Rattle.module_table.specs.Stands.{IsObject};
 ghost use Rattle.module_eval.specs.Counted.{AreCounted, visit_of};
 ghost use Rattle.module_eval.specs.Meant.{Means};
 ghost use Rattle.module_eval.specs.Operators.{op_of};
-ghost use Rattle.module_eval.specs.Walked.{Bars, Walked, are_formed, path_in, tree_in, tree_with};
+ghost use Rattle.module_eval.specs.Walked.{Walked, are_formed, path_in, tree_in, tree_with};
 ghost use Rattle.module_eval.specs.Walked.{with_operands};
 
-use crate::counts::{Counts, begin_node, count_leaf, enter};
-use crate::node::{Stop, site, stopped};
+use crate::counts::{Counts, begin_node, enter};
+use crate::node::Stop;
+use crate::object::visit_object;
+use crate::opening::{bar, no_entry};
 use crate::operator::Operator;
 use crate::part::{self, Join, Part};
-use module_table::Table;
 use name_tree::Snap;
-use omos_base::{PathName, Shared};
-use omos_model::{Entry, Expr, Image, Refusal};
-use sqlite_items::{Boxed, Items};
-use std::alloc::Global;
-
-const MAX_BLUEPRINTS: usize = 32;
-
-fn is_among(paths: &[PathName], path: &PathName) -> bool
-    ensures { result ≡ is_among paths.now path.now }
-{
-    paths.iter().any(|other| *path == *other)
-}
-
-/// The path leads nowhere.
-#[inline(never)]
-fn no_entry(alloc: Global, at: &PathName, node: u32, path: &PathName) -> Stop
-    ensures { Tells result (Refusal.NoEntry (site_of at.now node) path.now) }
-{
-    let refusal = Refusal::NoEntry {
-        site: site(at, node),
-        path: path.copy(),
-    };
-    stopped(alloc, refusal)
-}
-
-/// Why the blueprint may not be opened: it is open already, or 32 others are.
-#[inline(never)]
-fn bar(alloc: Global, above: &[PathName], at: &PathName, path: &PathName, node: u32) -> Option<Stop>
-    ensures { Bars result above.now at.now path.now node }
-{
-    if is_among(above, path) {
-        let refusal = Refusal::Cycle {
-            site: site(at, node),
-            path: path.copy(),
-        };
-        return Some(stopped(alloc, refusal));
-    }
-    if above.len() >= MAX_BLUEPRINTS {
-        let refusal = Refusal::TooDeep {
-            site: site(at, node),
-            path: path.copy(),
-        };
-        return Some(stopped(alloc, refusal));
-    }
-    None
-}
+use omos_base::PathName;
+use omos_model::{Entry, Expr, Image};
+use sqlite_items::Items;
 
 /// The operands of a merge, of which there are at least two.
 fn operands_of(operands: &Items<Expr>) -> &[Expr]
@@ -81,37 +33,10 @@ fn operands_of(operands: &Items<Expr>) -> &[Expr]
     operands.as_slice()
 }
 
-/// The object of a path as a leaf.
-#[inline(never)]
-fn visit_object(
-    counted: bool,
-    at: &PathName,
-    path: &PathName,
-    entry: &Shared<Entry>,
-    counts: &mut Counts,
-) -> Result<Part, Stop>
-    requires object { IsObject entry.now }
-    requires counted { AreCounted counts.old }
-    ensures walk { (f : FragmentParts) → entry.now ≡ Entry.Object f → Walked result
-        (and_then (begin_path counted at.now (add_read path.now (visit_of counts.old))) (leaf f))
-        counts.new }
-    ensures counted { AreCounted counts.new }
-    ensures least { counts.old.nodes ≤ counts.new.nodes }
-{
-    let Entry::Object(fragment) = entry.get() else {
-        unreachable!()
-    };
-    let node = enter(counted, at, path, counts)?;
-    let number = count_leaf(at, node, fragment, counts)?;
-    let alloc = counts.alloc();
-    let table = Table::leaf(alloc, number, entry.twin()?)?;
-    Ok(Part::Built(Boxed::new(alloc, table)?))
-}
-
 /// Goes to a path at a node of the blueprint `at`, inside the blueprints `above`.
 ///
 /// The functions that call one another here go at most 32 blueprints deep, of at most 64
-/// parentheses each, and four calls at each.
+/// parentheses each, with three calls at each.
 #[cycle(visits)]
 pub fn visit_path(
     snap: &Snap,
