@@ -1,0 +1,6 @@
+pub mod Tokens
+pub mod Numerals
+pub mod Grammar
+pub mod Texts
+pub mod TextFaults
+pub mod Canonical
