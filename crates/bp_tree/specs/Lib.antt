@@ -4,3 +4,4 @@ pub mod Grammar
 pub mod Texts
 pub mod TextFaults
 pub mod Canonical
+pub mod Pending

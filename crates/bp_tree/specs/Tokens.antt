@@ -1,5 +1,5 @@
 -- How the bytes of a text become tokens, each with the place of its first byte.
-use Rattle.std.specs.Prelude.{ℕ, ◌+◌, ◌==◌, ◌||◌, Bool, true, false, cond, List, [], ◌∷◌}
+use Rattle.std.specs.Prelude.{ℕ, ◌+◌, ◌==◌, ◌||◌, ◌&&◌, not, Bool, true, false, cond, List, [], ◌∷◌}
 use Rattle.omos_model.specs.Names.{is_name_byte}
 
 -- a word is a longest run of bytes that a symbol name may have; a byte that may not stand in a
@@ -35,18 +35,22 @@ abbrev pub in_front : ℕ → ℕ → List Placed → List Placed
 in_front byte place [] = []
 in_front byte place (t ∷ ts) = record { token = grown byte t.token; place = place } ∷ ts
 
--- the tokens of bytes that begin at a place, in a comment or not
+-- what stands for itself
+abbrev pub mark : ℕ → Token
+mark byte = cond (byte == 40) Open (cond (byte == 41) Close (Barred byte))
+
+-- the tokens of bytes that begin at a place, in a comment or not: a comment goes from a `;` to the
+-- next newline
 abbrev pub tokens_from : Bool → ℕ → List ℕ → List Placed
 tokens_from comment place [] = []
-tokens_from true place (byte ∷ rest) = tokens_from (cond (byte == 10) false true) (place + 1) rest
+tokens_from true place (byte ∷ rest) = tokens_from (not (byte == 10)) (place + 1) rest
 tokens_from false place (byte ∷ rest) =
-    cond (is_name_byte byte)
-    (cond (begins_word rest)
-    (in_front byte place (tokens_from false (place + 1) rest))
-    (record { token = Word (byte ∷ []); place = place } ∷ tokens_from false (place + 1) rest))
+    cond (byte == 59) (tokens_from true (place + 1) rest)
     (cond (is_blank byte) (tokens_from false (place + 1) rest)
-    (cond (byte == 59) (tokens_from true (place + 1) rest)
-    (record { token = cond (byte == 40) Open (cond (byte == 41) Close (Barred byte)); place = place } ∷ tokens_from false (place + 1) rest)))
+    (cond (is_name_byte byte && begins_word rest)
+    (in_front byte place (tokens_from false (place + 1) rest))
+    (record { token = cond (is_name_byte byte) (Word (byte ∷ [])) (mark byte); place = place }
+    ∷ tokens_from false (place + 1) rest)))
 
 abbrev pub tokens_of : List ℕ → List Placed
 tokens_of text = tokens_from false 0 text

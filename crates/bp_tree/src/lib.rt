@@ -3,6 +3,8 @@
 //! Nothing here knows what a path leads to, or evaluates an expression.
 #![tactic(auto)]
 
-mod print;
+mod printer;
+mod reading;
+mod token;
 
-pub use print::push_expr;
+pub use printer::print;

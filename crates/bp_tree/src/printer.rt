@@ -52,7 +52,7 @@ fn push_operands(text: &mut Bytes, operands: &[Expr]) -> Result<(), NoMemory>
 /// Appends an expression.
 #[cycle(expression)]
 #[tactic(auto, using(crate::proofs::Layers::text_Path, crate::proofs::Layers::text_Merge, crate::proofs::Layers::text_Override, crate::proofs::Layers::text_Rename, crate::proofs::Layers::text_Restrict, crate::proofs::Layers::text_Freeze, crate::proofs::Layers::text_Hide, crate::proofs::Layers::text_Show, crate::proofs::Layers::text_CopyAs))]
-pub fn push_expr(text: &mut Bytes, expr: &Expr) -> Result<(), NoMemory>
+fn push_expr(text: &mut Bytes, expr: &Expr) -> Result<(), NoMemory>
     ensures { OnOk result (text.new ≡ text.old ++ expr_text expr.now) }
 {
     match expr {
@@ -104,4 +104,59 @@ pub fn push_expr(text: &mut Bytes, expr: &Expr) -> Result<(), NoMemory>
             text.push_slice(b")")
         }
     }
+}
+
+/// Appends a number, as `0x` and lower-case digits.
+fn push_hex(alloc: Global, text: &mut Bytes, number: u64) -> Result<(), NoMemory>
+    ensures { OnOk result (text.new ≡ text.old ++ hex_text number) }
+{
+    let digits = format!(in alloc; "{number:x}")?;
+    text.push_slice(b"0x")?;
+    text.push_slice(digits.as_bytes())
+}
+
+/// Appends the start and a space, where it isn't `_start`.
+fn push_start(text: &mut Bytes, start: &Start) -> Result<(), NoMemory>
+    ensures { OnOk result (text.new ≡ text.old ++ start_text start.now) }
+{
+    match start {
+        Start::Named(name) if name.as_bytes() == b"_start".as_slice() => Ok(()),
+        Start::Named(name) => {
+            text.push_slice(b"(entry ")?;
+            text.push_slice(name.as_bytes())?;
+            text.push_slice(b") ")
+        }
+        Start::NoEntry => text.push_slice(b"(no_entry) "),
+    }
+}
+
+/// Appends the range and a space, where it isn't the default.
+fn push_range(
+    alloc: Global,
+    text: &mut Bytes,
+    lo: u64,
+    hi: u64,
+) -> Result<(), NoMemory>
+    ensures { OnOk result (text.new ≡ text.old ++ range_text lo hi) }
+{
+    if lo == 0x40_0000 && hi == 0x4000_0000 {
+        return Ok(());
+    }
+    text.push_slice(b"(range ")?;
+    push_hex(alloc, text, lo)?;
+    text.push_slice(b" ")?;
+    push_hex(alloc, text, hi)?;
+    text.push_slice(b") ")
+}
+
+/// The canonical text of an image: the least that reads as it, on one line. Linear in the text.
+pub fn print(alloc: Global, image: &Image) -> Result<Bytes, NoMemory>
+    ensures text { IfOk result (λ bytes. bytes ≡ canonical_text image.now) }
+{
+    let mut text = Bytes::from_slice(alloc, b"(image ")?;
+    push_start(&mut text, image.start())?;
+    push_range(alloc, &mut text, image.lo(), image.hi())?;
+    push_expr(&mut text, image.body())?;
+    text.push_slice(b")")?;
+    Ok(text)
 }
