@@ -27,6 +27,16 @@ fn is_blank(byte: u8) -> bool
     byte == b' ' || byte == b'\t' || byte == b'\n' || byte == b'\r'
 }
 
+/// Whether the bytes begin with a word.
+fn starts_word(bytes: &[u8]) -> bool
+    ensures { result ≡ begins_word bytes.now }
+{
+    match bytes {
+        [] => false,
+        [byte, ..] => is_word_byte(*byte),
+    }
+}
+
 /// How many bytes the word has that the bytes begin with.
 fn word_size(bytes: &[u8]) -> usize
     ensures within { result ≤ length bytes.now }
@@ -44,7 +54,7 @@ fn word_size(bytes: &[u8]) -> usize
 impl<'a> Reader<'a> {
     /// Goes past blanks and comments.
     fn skip(self) -> Reader<'a>
-        ensures same { pending result ≡ pending self }
+        ensures same { pending result ≡ pending self.entry }
         ensures at { AtToken result.rest.now }
     {
         let mut rest = self.rest;
@@ -65,12 +75,12 @@ impl<'a> Reader<'a> {
     }
 
     /// The first token, or none at the end.
+    #[tactic(auto, using(crate::proofs::Runs::word_at))]
     pub(crate) fn next(self) -> Option<Next<'a>>
-        ensures { MatchOption result (pending self ≡ []) (IsNext (pending self)) }
+        ensures { MatchOption result (pending self.entry ≡ []) (IsNext (pending self.entry)) }
     {
         let Reader { rest, place } = self.skip();
-        let (byte, more) = rest.split_first()?;
-        if is_word_byte(*byte) {
+        if starts_word(rest) {
             let size = word_size(rest);
             let (word, more) = rest.split_at(size);
             return Some(Next {
@@ -82,6 +92,7 @@ impl<'a> Reader<'a> {
                 },
             });
         }
+        let (byte, more) = rest.split_first()?;
         let token = match *byte {
             b'(' => Token::Open,
             b')' => Token::Close,
