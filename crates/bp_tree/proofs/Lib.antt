@@ -1,2 +1,3 @@
 mod Layers
+mod Moves
 mod Runs

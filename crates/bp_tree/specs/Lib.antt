@@ -5,3 +5,4 @@ pub mod Texts
 pub mod TextFaults
 pub mod Canonical
 pub mod Pending
+pub mod Symbols

@@ -16,25 +16,25 @@ Language = ℕ → List Token → Type 0
 abbrev pub Begins : Language → ℕ → List Token → Type 0
 Begins L more ts = (rest : List Token) × L more (ts ++ rest)
 
-abbrev pub IsNumeral : List ℕ → Type 0
-IsNumeral word = (n : ℕ) × IsNumeralOf word n
+abbrev pub IsNumberWord : List ℕ → Type 0
+IsNumberWord word = (n : ℕ) × IsNumeralOf word n
 
 -- a number is called for after these tokens: some word may follow, and none but a number
 abbrev pub CallsForNumber : Language → List Token → Type 0
 CallsForNumber L ts =
     ((word : List ℕ) × Begins L 0 (ts ++ Word word ∷ []))
-    × ((word : List ℕ) → Begins L 0 (ts ++ Word word ∷ []) → IsNumeral word)
+    × ((word : List ℕ) → Begins L 0 (ts ++ Word word ∷ []) → IsNumberWord word)
 
 -- it would be right if parentheses might nest deeper
 abbrev pub IsTooDeep : Language → List Token → Token → Type 0
 IsTooDeep L ts t = (t ≡ Open) × ((more : ℕ) × Begins L more (ts ++ t ∷ []))
 
 abbrev pub IsNoNumber : Language → List Token → Token → Type 0
-IsNoNumber L ts t = CallsForNumber L ts × ((word : List ℕ) × (t ≡ Word word) × ¬ IsNumeral word)
+IsNoNumber L ts t = CallsForNumber L ts × ((word : List ℕ) × (t ≡ Word word) × ¬ IsNumberWord word)
 
 -- a number that fails its test, since else it would be right
 abbrev pub IsOffRange : Language → List Token → Token → Type 0
-IsOffRange L ts t = CallsForNumber L ts × ((word : List ℕ) × (t ≡ Word word) × IsNumeral word)
+IsOffRange L ts t = CallsForNumber L ts × ((word : List ℕ) × (t ≡ Word word) × IsNumberWord word)
 
 -- what is wrong with a token at a place, after these tokens, with which nothing begins any more
 abbrev pub IsTokenFault : Language → List Token → Token → ℕ → BpFault → Type 0

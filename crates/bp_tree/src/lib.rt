@@ -3,8 +3,10 @@
 //! Nothing here knows what a path leads to, or evaluates an expression.
 #![tactic(auto)]
 
+mod form;
 mod printer;
 mod reading;
+mod stop;
 mod token;
 
 pub use printer::print;
