@@ -1,3 +1,5 @@
 mod Layers
 mod Moves
+mod Samples
+mod Failing
 mod Runs

@@ -3,17 +3,23 @@
 ghost use Rattle.std.specs.Prelude.{◌≡◌, MatchOption};
 ghost use Rattle.bp_tree.specs.Symbols.{keyword};
 
-/// What the word after the parenthesis says.
+/// An operator on one expression.
 #[derive(Clone, Copy)]
-pub(crate) enum Form {
-    Merge,
-    Override,
+pub(crate) enum Applied {
     Rename,
     Restrict,
     Freeze,
     Hide,
     Show,
     CopyAs,
+}
+
+/// What the word after the parenthesis says.
+#[derive(Clone, Copy)]
+pub(crate) enum Form {
+    Merge,
+    Override,
+    Apply(Applied),
 }
 
 impl Form {
@@ -25,12 +31,12 @@ impl Form {
         match word {
             b"merge" => Some(Form::Merge),
             b"override" => Some(Form::Override),
-            b"rename" => Some(Form::Rename),
-            b"restrict" => Some(Form::Restrict),
-            b"freeze" => Some(Form::Freeze),
-            b"hide" => Some(Form::Hide),
-            b"show" => Some(Form::Show),
-            b"copy_as" => Some(Form::CopyAs),
+            b"rename" => Some(Form::Apply(Applied::Rename)),
+            b"restrict" => Some(Form::Apply(Applied::Restrict)),
+            b"freeze" => Some(Form::Apply(Applied::Freeze)),
+            b"hide" => Some(Form::Apply(Applied::Hide)),
+            b"show" => Some(Form::Apply(Applied::Show)),
+            b"copy_as" => Some(Form::Apply(Applied::CopyAs)),
             _ => None,
         }
     }

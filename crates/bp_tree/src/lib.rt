@@ -4,6 +4,8 @@
 #![tactic(auto)]
 
 mod form;
+mod leaves;
+mod operator;
 mod printer;
 mod reading;
 mod stop;

@@ -20,6 +20,7 @@ pub(crate) struct Reader<'a> {
 }
 
 /// A token, its place, and what comes after it.
+#[derive(Clone, Copy)]
 pub(crate) struct Next<'a> {
     pub(crate) token: Token<'a>,
     pub(crate) place: u32,
