@@ -1,5 +1,5 @@
 -- The tokens of the code, and what they are seen as.
-use Rattle.std.proofs.Common.{◌≡◌, ℕ, List, sym, ap, ◌∙◌, subst}
+use Rattle.std.proofs.Common.{◌≡◌, ℕ, List, sym, ap, ◌∙◌, subst, IsTrue, true, false}
 use Rattle.bp_tree.specs.Tokens.{Token, Open, Close, Word}
 use Rattle.bp_tree.specs.Pending.{seen}
 use Rattle.bp_tree.specs.declared.token.Token as kind
@@ -27,3 +27,9 @@ seen_word (code.Barred b) n h other = cc
 -- the word that was seen
 pub word_is : (t : kind.Token) (w : _) (n : List ℕ) → t ≡ code.Word w → seen t ≡ Word n → n ≡ w.now
 word_is t w n e h = let k : Word n ≡ Word w.now = sym h ∙ ap seen e in cc
+
+pub not_close : (t : kind.Token) (w : _) → t ≡ code.Word w → seen t ≡ Close → ⊥
+not_close t w e h = let k : Close ≡ Word w.now = sym h ∙ ap seen e in cc
+
+pub not_true : IsTrue false → ⊥
+not_true h = let k : false ≡ true = h in cc

@@ -1,6 +1,6 @@
 //! Reading of single tokens, names and lists of names.
 
-ghost use Rattle.std.specs.Prelude.{◌≡◌, ◌∷◌, [], map, ◌++◌, All, codes};
+ghost use Rattle.std.specs.Prelude.{◌≡◌, ◌∷◌, [], map, ◌++◌, All, codes, IsTrue, ◌↔◌};
 ghost use Rattle.omos_base.specs.Fault.{MatchFault};
 ghost use Rattle.omos_base.specs.SymNames.{IsSymName};
 ghost use Rattle.bp_tree.specs.Tokens as token;
@@ -42,6 +42,13 @@ pub(crate) fn close<'a>(from: Reader<'a>) -> Result<Reader<'a>, Fault<Stop>>
     }
 }
 
+/// Whether the bytes are the same.
+pub(crate) fn same(left: &[u8], right: &[u8]) -> bool
+    ensures { IsTrue result ↔ (left.now ≡ right.now) }
+{
+    left == right
+}
+
 /// What comes after the word `image`.
 pub(crate) fn image_word<'a>(from: Reader<'a>) -> Result<Reader<'a>, Fault<Stop>>
     ensures { MatchFault result (λ r. AreRead (It (token.Word (codes "image")) ∷ [])
@@ -51,7 +58,13 @@ pub(crate) fn image_word<'a>(from: Reader<'a>) -> Result<Reader<'a>, Fault<Stop>
     match from.next() {
         None => Err(Fault::Refused(Stop::Early)),
         Some(next) => match next.token {
-            Token::Word(b"image") => Ok(next.after),
+            Token::Word(word) => {
+                if same(word, b"image") {
+                    Ok(next.after)
+                } else {
+                    Err(Fault::Refused(Stop::At(BpFault::Shape(next.place))))
+                }
+            }
             _ => Err(Fault::Refused(Stop::At(BpFault::Shape(next.place)))),
         },
     }
@@ -78,5 +91,37 @@ pub(crate) fn name<'a>(
             },
             _ => Err(Fault::Refused(Stop::At(BpFault::Shape(next.place)))),
         },
+    }
+}
+
+/// The names up to a `)`, and what comes after it.
+pub(crate) fn names<'a>(
+    alloc: Global,
+    from: Reader<'a>,
+) -> Result<(Items<SymName>, Reader<'a>), Fault<Stop>>
+    ensures { MatchFault result (λ r. AreRead (Names ∷ [])
+        (λ ws. (ws ≡ map token.Word r.0 ++ token.Close ∷ []) × All IsSymName r.0)
+        (pending from.entry) (pending r.1)) (Fails (Names ∷ []) (pending from.entry)) }
+{
+    let mut names = Items::new(alloc);
+    let mut rest = from;
+    'names: loop {
+        match rest.next() {
+            None => return Err(Fault::Refused(Stop::Early)),
+            Some(next) => match next.token {
+                Token::Close => return Ok((names, next.after)),
+                Token::Word(word) => {
+                    match SymName::read(alloc, word) {
+                        Ok(name) => names.push(name)?,
+                        Err(Fault::Refused(_)) => {
+                            return Err(Fault::Refused(Stop::At(BpFault::Shape(next.place))));
+                        }
+                        Err(Fault::NoMemory) => return Err(Fault::NoMemory),
+                    }
+                    rest = next.after;
+                }
+                _ => return Err(Fault::Refused(Stop::At(BpFault::Shape(next.place)))),
+            },
+        }
     }
 }
