@@ -3,6 +3,8 @@ mod Moves
 mod Samples
 mod Failing
 mod NameLists
+mod Sequences
+mod Opened
 mod Sights
 mod Singles
 mod Runs
