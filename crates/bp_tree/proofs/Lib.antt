@@ -5,6 +5,7 @@ mod Failing
 mod NameLists
 mod Sequences
 mod Opened
+mod Expressions
 mod Sights
 mod Singles
 mod Runs
