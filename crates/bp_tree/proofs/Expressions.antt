@@ -40,7 +40,7 @@ named_keyword (form.Apply kind.Hide) = refl
 named_keyword (form.Apply kind.Show) = refl
 named_keyword (form.Apply kind.CopyAs) = refl
 
-same_form : (f g : Form) → keyword f ≡ keyword g → f ≡ g
+pub same_form : (f g : Form) → keyword f ≡ keyword g → f ≡ g
 same_form f g e = sym (named_keyword f) ∙ ap form_named e ∙ named_keyword g
 
 inside_sample : (room : ℕ) → Sample (Inside room)
@@ -103,7 +103,7 @@ opened_head n P ts e (Applies op inner x eq is isop nest px) = (op_words op ++ (
 expr_sample : (room : ℕ) → Sample (AnExpr room)
 expr_sample room more = (Word (47 ∷ 97 ∷ []) ∷ [], (expr.Path (47 ∷ 97 ∷ []), expr_a (room + more)))
 
-expr_full : (room : ℕ) → IsNeverEmpty (AnExpr room)
+pub expr_full : (room : ℕ) → IsNeverEmpty (AnExpr room)
 expr_full room more h =
     elim (expr_cases (room + more) [] h.0 h.1) [
       | inl p ↦ let e : [] ≡ Word p.0 ∷ [] = p.1 in cc
@@ -115,7 +115,7 @@ expr_full room more h =
 pub expr_early : (room : ℕ) (ts : List Placed) → ts ≡ [] → Fails (AnExpr room ∷ []) ts Early
 expr_early room ts e = fails_early (AnExpr room) ts (expr_sample room) (expr_full room) e
 
-expr_first : (n : ℕ) (t : Token) (tail : List Token) (x : Expr) → IsExpr n (t ∷ tail) x
+pub expr_first : (n : ℕ) (t : Token) (tail : List Token) (x : Expr) → IsExpr n (t ∷ tail) x
     → ((p : List ℕ) → t ≡ Word p → IsPath p → ⊥) → (t ≡ Open → 1 ≤ n → ⊥) → ⊥
 expr_first n t tail x is path opens =
     elim (expr_cases n (t ∷ tail) x is) [
@@ -247,3 +247,12 @@ pub form_fails : (room : ℕ) (f : Form) (ts : List Placed) (t : Placed) (after 
 form_fails room f ts t after stop e same nest h = record {
   why = λ ss c. form_lead room f ts t after e same nest ss stop (h.why ss c);
 }
+
+pub expr_nil : (n : ℕ) (x : Expr) → IsExpr n [] x → ⊥
+expr_nil n x is =
+    elim (expr_cases n [] x is) [
+      | inl p ↦ let e : [] ≡ Word p.0 ∷ [] = p.1 in cc
+      | inr o ↦
+          let k = opened_head o.0 (IsExpr o.0) [] x o.2 in
+          let e : [] ≡ Open ∷ k.0 = k.1 in cc
+    ]

@@ -6,6 +6,10 @@ mod NameLists
 mod Sequences
 mod Opened
 mod Expressions
+mod Arms
+mod Solids
+mod Operands
+mod Forms
 mod Sights
 mod Singles
 mod Runs

@@ -112,7 +112,7 @@ op_args (CopyAs a b) more is =
     (Word a ∷ [], Word b ∷ [], refl, (a, refl, is.0), (Word b ∷ [], [], refl, (b, refl, is.1), refl)))
 
 -- a merge's tokens, in both groupings
-regrouped : (f g inner : List Token) → f ++ (g ++ (inner ++ Close ∷ [])) ≡ (f ++ (g ++ inner)) ++ Close ∷ []
+pub regrouped : (f g inner : List Token) → f ++ (g ++ (inner ++ Close ∷ [])) ≡ (f ++ (g ++ inner)) ++ Close ∷ []
 regrouped f g inner =
     ap (λ us. f ++ us) (sym (append_assoc g inner (Close ∷ []))) ∙ sym (append_assoc f (g ++ inner) (Close ∷ []))
 

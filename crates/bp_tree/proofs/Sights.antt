@@ -33,3 +33,6 @@ not_close t w e h = let k : Close ≡ Word w.now = sym h ∙ ap seen e in cc
 
 pub not_true : IsTrue false → ⊥
 not_true h = let k : false ≡ true = h in cc
+
+pub not_open : (t : kind.Token) (w : _) → t ≡ code.Word w → seen t ≡ Open → ⊥
+not_open t w e h = let k : Open ≡ Word w.now = sym h ∙ ap seen e in cc

@@ -120,6 +120,12 @@ IsOperator kind op ts =
     (Word (operator_keyword kind) ∷ ts ≡ op_words (op_of op)) × IsOp (op_of op)
     × (op_nesting (op_of op) ≤ kind_nesting kind)
 
+-- the tokens are more operands and `)`, behind those that are given
+abbrev pub AreOperands : ℕ → List Expr → List Expr → List Token → Type 0
+AreOperands room given all ts =
+    (inner : List Token) × (xs : List Expr) × (ts ≡ inner ++ Close ∷ [])
+    × AreExprs (IsExpr room) inner xs × (all ≡ given ++ xs)
+
 -- ---- what reading answers
 
 -- why the tokens stop being the beginning of something, or are only a beginning

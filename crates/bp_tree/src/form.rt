@@ -1,7 +1,7 @@
 //! The forms of an expression in parentheses.
 
 ghost use Rattle.std.specs.Prelude.{◌≡◌, MatchOption};
-ghost use Rattle.bp_tree.specs.Symbols.{keyword};
+ghost use Rattle.bp_tree.specs.Symbols.{keyword, kind_nesting};
 
 /// An operator on one expression.
 #[derive(Clone, Copy)]
@@ -20,6 +20,18 @@ pub(crate) enum Form {
     Merge,
     Override,
     Apply(Applied),
+}
+
+impl Applied {
+    /// How deep its own parentheses nest: the list of a show.
+    pub(crate) fn nesting(self) -> u32
+        ensures { result ≡ kind_nesting self }
+    {
+        match self {
+            Applied::Show => 1,
+            _ => 0,
+        }
+    }
 }
 
 impl Form {

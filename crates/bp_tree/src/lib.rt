@@ -5,6 +5,7 @@
 
 mod form;
 mod leaves;
+mod nodes;
 mod operator;
 mod printer;
 mod reading;
