@@ -9,6 +9,9 @@ mod Expressions
 mod Arms
 mod Solids
 mod Operands
+mod Optional
+mod Lawful
+mod Digits
 mod Forms
 mod Sights
 mod Singles

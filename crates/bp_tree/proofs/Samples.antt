@@ -52,9 +52,11 @@ opened_a n = Applies (Freeze (97 ∷ [])) (Word (47 ∷ 97 ∷ []) ∷ []) (expr
 -- ---- a word that does not begin with a digit is no number
 
 pub numeral_head : (b : ℕ) (w : List ℕ) (n : ℕ) → IsNumeralOf (b ∷ w) n → digit_value b < 10
-numeral_head b w n (inl d) = d.0.1.0
-numeral_head b w n (inr h) =
-    let e : b ≡ 48 = cc in rw e (omega arith)
+numeral_head b w n h =
+    elim h.0 [
+      | inl d ↦ d.0.1.0
+      | inr x ↦ let q : b ∷ w ≡ 48 ∷ 120 ∷ x.0 = x.1 in let e : b ≡ 48 = cc in rw e (omega arith)
+    ]
 
 pub no_number : (b : ℕ) (w : List ℕ) → 10 ≤ digit_value b → IsNumberWord (b ∷ w) → ⊥
 no_number b w far h = let near : digit_value b < 10 = numeral_head b w h.0 h.1 in omega arith

@@ -6,3 +6,4 @@ pub mod TextFaults
 pub mod Canonical
 pub mod Pending
 pub mod Symbols
+pub mod Header

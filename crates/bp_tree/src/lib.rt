@@ -4,8 +4,10 @@
 #![tactic(auto)]
 
 mod form;
+mod header;
 mod leaves;
 mod nodes;
+mod numbers;
 mod operator;
 mod printer;
 mod reading;
