@@ -9,6 +9,7 @@ mod Expressions
 mod Arms
 mod Solids
 mod Operands
+mod Ranges
 mod Optional
 mod Lawful
 mod Digits

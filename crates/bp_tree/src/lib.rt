@@ -3,6 +3,7 @@
 //! Nothing here knows what a path leads to, or evaluates an expression.
 #![tactic(auto)]
 
+mod bounds;
 mod form;
 mod header;
 mod leaves;
