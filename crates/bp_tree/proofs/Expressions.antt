@@ -94,7 +94,7 @@ form_lead room f ts t after e same nest = leads_step (Inside room ∷ []) (behin
 
 -- ---- the first token
 
-opened_head : (n : ℕ) (P : List Token → Expr → Type 0) (ts : List Token) (e : Expr) → IsOpened n P ts e
+pub opened_head : (n : ℕ) (P : List Token → Expr → Type 0) (ts : List Token) (e : Expr) → IsOpened n P ts e
     → (ws : List Token) × (ts ≡ Open ∷ ws)
 opened_head n P ts e (Merges inner xs eq is two are) = (Word (codes "merge") ∷ (inner ++ Close ∷ []), eq)
 opened_head n P ts e (Overrides l r x y eq is px py) = (Word (codes "override") ∷ (l ++ (r ++ Close ∷ [])), eq)

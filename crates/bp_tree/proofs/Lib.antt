@@ -9,6 +9,7 @@ mod Expressions
 mod Arms
 mod Solids
 mod Operands
+mod Headers
 mod Ranges
 mod Optional
 mod Lawful

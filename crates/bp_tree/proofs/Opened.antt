@@ -91,7 +91,7 @@ args_op kind.CopyAs more ws h = (
 )
 
 -- and its arguments
-op_args : (op : Op) (more : ℕ) → IsOp op
+pub op_args : (op : Op) (more : ℕ) → IsOp op
     → (k : Applied) × (ws : List Token) × (op_words op ≡ Word (operator_keyword k) ∷ ws)
     × (op_nesting op ≡ kind_nesting k) × AreSyms (arguments k) more ws
 op_args (Rename a b) more is =
