@@ -135,7 +135,7 @@ body_freeze = let b = body_opens 0 in (Word (97 ∷ []) ∷ Word (47 ∷ 97 ∷ 
 no_range : (more : ℕ) (ws : List Token) → AreSyms body_syms more ws → AreSyms range_syms more ws
 no_range more ws h = ([], ws, refl, (4194304, 1073741824, inl (refl, refl, refl)), h)
 
-range_open : (more : ℕ) → Begins (AreSyms range_syms) more (Open ∷ [])
+pub range_open : (more : ℕ) → Begins (AreSyms range_syms) more (Open ∷ [])
 range_open more = let b = body_open more in (b.0, no_range more (Open ∷ b.0) b.1)
 
 range_freeze : Begins (AreSyms range_syms) 0 (Open ∷ Word (codes "freeze") ∷ [])
@@ -216,7 +216,7 @@ IsStartKey k = (k ≡ codes "entry") ⊎ (k ≡ codes "no_entry")
 abbrev start_syms : List Sym
 start_syms = AStart ∷ range_syms
 
-no_start : (more : ℕ) (ws : List Token) → AreSyms range_syms more ws → AreSyms start_syms more ws
+pub no_start : (more : ℕ) (ws : List Token) → AreSyms range_syms more ws → AreSyms start_syms more ws
 no_start more ws h = ([], ws, refl, (Named (codes "_start"), inl (refl, refl)), h)
 
 start_split : (more : ℕ) (ws front rest : List Token) (s : Start) → ws ≡ front ++ rest → IsStart front s → AreSyms range_syms more rest

@@ -1,7 +1,6 @@
 -- What a text says is a blueprint: its merges have two operands, and it nests as deep as it may.
 use Rattle.std.proofs.Common.{◌≡◌, ◌≤◌, ℕ, zero, suc, ◌+◌, Bool, true, false, ◌&&◌, nat_le, max, fold, map, List, [], ◌∷◌, ◌++◌, refl, sym, ap, subst, ◌∙◌, ◌⊎◌, inl, inr, arith, length, IsTrue}
 use Rattle.std.specs.List.{list_all}
-use Rattle.std.proofs.lemmas.List.{length-map}
 use Rattle.omos_model.specs.Op.{Op, Rename, Restrict, Freeze, Hide, Show, CopyAs}
 use Rattle.omos_model.specs.ImageParts.{formed_layer, is_formed, nesting_layer, nesting}
 use Rattle.omos_model.specs.declared.expr.Expr.{Expr, fold-Expr}
@@ -37,6 +36,10 @@ all_low P n fits ts (x ∷ xs) m low are =
     let h : nesting x ≤ n = (fits are.0 x are.3).1 in
     all_low P n fits are.1 xs (max m (nesting x)) (omega (arith, h, low)) are.4
 
+formed_count : (xs : List Expr) → length (map is_formed xs) ≡ length xs
+formed_count [] = refl
+formed_count (x ∷ xs) = omega (arith, formed_count xs)
+
 merge_fits : (n : ℕ) (xs : List Expr) → 2 ≤ length xs → list_all (λ x. x) (map is_formed xs) ≡ true
     → fold max 0 (map nesting xs) ≤ n → IsFit (suc n) (expr.Merge xs)
 merge_fits n xs two all low =
@@ -44,7 +47,7 @@ merge_fits n xs two all low =
     ap is_formed (sym (expr.rolls-Merge xs)) ∙ fold-roll-Expr Bool formed_layer (Expr-F.Merge xs) in
     let d : nesting (expr.Merge xs) ≡ fold max 0 (map nesting xs) + 1 =
     ap nesting (sym (expr.rolls-Merge xs)) ∙ fold-roll-Expr ℕ nesting_layer (Expr-F.Merge xs) in
-    let l : length (map is_formed xs) ≡ length xs = length-map is_formed xs in
+    let l : length (map is_formed xs) ≡ length xs = formed_count xs in
     let t : nat_le 2 (length (map is_formed xs)) ≡ true = grind (arith, l, two) in
     (f ∙ rw (t, all) refl, omega (arith, d, low))
 

@@ -9,6 +9,7 @@ mod Expressions
 mod Arms
 mod Solids
 mod Operands
+mod Images
 mod Headers
 mod Ranges
 mod Optional

@@ -10,9 +10,11 @@ mod leaves;
 mod nodes;
 mod numbers;
 mod operator;
+mod parser;
 mod printer;
 mod reading;
 mod stop;
 mod token;
 
+pub use parser::parse;
 pub use printer::print;
