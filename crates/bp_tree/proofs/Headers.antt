@@ -1,0 +1,339 @@
+-- The start and the range of an image, which may be left out.
+use Rattle.std.proofs.Common.{◌≡◌, ◌≤◌, ◌<◌, ℕ, ◌+◌, List, [], ◌∷◌, ◌++◌, refl, sym, ap, subst, ◌∙◌, ◌⊎◌, inl, inr, codes, arith, cond}
+use Rattle.omos_base.specs.SymNames.{IsSymName}
+use Rattle.omos_model.specs.Names.{same_name}
+use Rattle.omos_model.specs.declared.entry.Start.{Start}
+use Rattle.omos_model.specs.declared.entry.Start.TheVariants.{Named, NoEntry}
+use Rattle.omos_model.specs.declared.expr.Expr.{Expr}
+use Rattle.bp_tree.specs.Tokens.{Token, Open, Close, Word, Placed}
+use Rattle.bp_tree.specs.Texts.{words_of}
+use Rattle.bp_tree.specs.TextFaults.{Language, Begins, IsNumberWord}
+use Rattle.bp_tree.specs.Grammar.{IsExpr, IsOpened, Merges, Overrides, Applies, IsStart, IsRange}
+use Rattle.bp_tree.specs.Symbols.{Sym, It, AName, AnExpr, AStart, ARange, Low, IsSym, AreSyms, keyword, Completable, Fails, AreRead, WhyStops}
+use Rattle.bp_tree.specs.Header.{IsOpening, IsPart, body_syms, range_syms, AreBounds}
+use Rattle.bp_tree.specs.declared.form.Form.{Form}
+use Rattle.bp_tree.specs.declared.form.Form.TheVariants as form
+use Rattle.bp_tree.specs.declared.form.Applied.TheVariants as kind
+use Rattle.bp_tree.specs.declared.stop.Stop.{Stop}
+use Rattle.bp_tree.proofs.Expressions.{opened_head}
+use Rattle.bp_tree.proofs.Failing.{completes, begins_with}
+use Rattle.bp_tree.proofs.Moves.{step}
+use Rattle.bp_tree.proofs.Opened.{op_args}
+use Rattle.bp_tree.proofs.Optional.{DiffersAtKeys, unless_key}
+use Rattle.bp_tree.proofs.Samples.{expr_cases, opened_is_expr, opened_a, freeze_a, no_number_freeze}
+use Rattle.bp_tree.proofs.Solids.{solid_end, solid_it}
+
+-- ---- two tokens taken
+
+pub opened_lead : (K L : Language) (k : List ℕ) (ts after : List Placed) (stop : Stop) → IsOpening ts k after
+    → ((more : ℕ) (ws : List Token) → K more ws → L more (Open ∷ Word k ∷ ws))
+    → ((more : ℕ) (ws : List Token) → L more (Open ∷ Word k ∷ ws) → K more ws)
+    → WhyStops K after stop → WhyStops L ts stop
+opened_lead K L k ts after stop o there back h =
+    let a = o.0 in
+    let b = o.1 in
+    let P : List Placed → Type 0 = λ us. WhyStops L us stop in
+    let middle : Language = λ more ws. L more (a.token ∷ ws) in
+    subst P (sym o.2) (step middle L a (b ∷ after) stop (λ more ws l. l) (λ more ws l. l)
+    (step K middle b after stop
+    (λ more ws x. rw (o.3, o.4) (there more ws x))
+    (λ more ws x. back more ws (rw (o.3, o.4) at x)) h))
+
+-- ---- the word behind a parenthesis
+
+opened_word : (n : ℕ) (ws : List Token) (e : Expr) → IsOpened n (IsExpr n) (Open ∷ ws) e
+    → (f : Form) × (body : List Token) × (ws ≡ Word (keyword f) ∷ body)
+opened_word n ws e (Merges inner xs eq is two are) =
+    let k : ws ≡ Word (codes "merge") ∷ (inner ++ Close ∷ []) = cc in (form.Merge, inner ++ Close ∷ [], k)
+opened_word n ws e (Overrides l r x y eq is px py) =
+    let k : ws ≡ Word (codes "override") ∷ (l ++ (r ++ Close ∷ [])) = cc in (form.Override, l ++ (r ++ Close ∷ []), k)
+opened_word n ws e (Applies op inner x eq is isop nest px) =
+    let a = op_args op 0 isop in
+    let k : Open ∷ ws ≡ Open ∷ Word (keyword (form.Apply a.0)) ∷ (a.1 ++ (inner ++ Close ∷ [])) =
+    eq ∙ ap (λ us. Open ∷ (us ++ (inner ++ Close ∷ []))) a.2 in
+    let w : ws ≡ Word (keyword (form.Apply a.0)) ∷ (a.1 ++ (inner ++ Close ∷ [])) = cc in
+    (form.Apply a.0, a.1 ++ (inner ++ Close ∷ []), w)
+
+expr_word : (more : ℕ) (k : List ℕ) (ws front rest : List Token) (x : Expr) (n : ℕ) → Open ∷ Word k ∷ ws ≡ front ++ rest
+    → IsExpr n front x → (f : Form) × (k ≡ keyword f)
+expr_word more k ws front rest x n e is =
+    elim (expr_cases n front x is) [
+      | inl p ↦ let q : Open ∷ Word k ∷ ws ≡ Word p.0 ∷ rest = e ∙ ap (λ us. us ++ rest) p.1 in absurd cc
+      | inr o ↦
+          let h = opened_head o.0 (IsExpr o.0) front x o.2 in
+          let P : List Token → Type 0 = λ us. IsOpened o.0 (IsExpr o.0) us x in
+          let w = opened_word o.0 h.0 x (subst P h.1 o.2) in
+          let q : Open ∷ Word k ∷ ws ≡ Open ∷ Word (keyword w.0) ∷ (w.1 ++ rest) =
+          e ∙ ap (λ us. us ++ rest) (h.1 ∙ ap (λ us. Open ∷ us) w.2) in
+          let same : k ≡ keyword w.0 = cc in (w.0, same)
+    ]
+
+body_word : (more : ℕ) (k : List ℕ) (ws : List Token) → AreSyms body_syms more (Open ∷ Word k ∷ ws) → (f : Form) × (k ≡ keyword f)
+body_word more k ws h = expr_word more k ws h.0 h.1 h.3.0 (63 + more) h.2 h.3.1
+
+range_word : (more : ℕ) (k : List ℕ) (ws : List Token) → AreSyms range_syms more (Open ∷ Word k ∷ ws)
+    → (k ≡ codes "range") ⊎ ((f : Form) × (k ≡ keyword f))
+range_word more k ws h =
+    elim h.3.2 [
+      | inl n ↦
+          let q : Open ∷ Word k ∷ ws ≡ h.1 = h.2 ∙ ap (λ us. us ++ h.1) n.0 in
+          inr (body_word more k ws (subst (AreSyms body_syms more) (sym q) h.4))
+      | inr r ↦
+          let q : Open ∷ Word k ∷ ws ≡ Open ∷ Word (codes "range") ∷ Word r.0 ∷ Word r.1 ∷ Close ∷ h.1 = h.2 ∙ ap (λ us. us ++ h.1) r.2 in
+          let same : k ≡ codes "range" = cc in inl same
+    ]
+
+-- which word of a header it is, or none
+abbrev header_kind : List ℕ → ℕ
+header_kind w =
+    cond (same_name w (codes "entry")) 1
+    (cond (same_name w (codes "no_entry")) 2 (cond (same_name w (codes "range")) 3 0))
+
+form_kind : (f : Form) → header_kind (keyword f) ≡ 0
+form_kind form.Merge = refl
+form_kind form.Override = refl
+form_kind (form.Apply kind.Rename) = refl
+form_kind (form.Apply kind.Restrict) = refl
+form_kind (form.Apply kind.Freeze) = refl
+form_kind (form.Apply kind.Hide) = refl
+form_kind (form.Apply kind.Show) = refl
+form_kind (form.Apply kind.CopyAs) = refl
+
+apart_kinds : (v w : List ℕ) (m n : ℕ) → header_kind v ≡ m → header_kind w ≡ n → (m ≡ n → ⊥) → v ≡ w → ⊥
+apart_kinds v w m n a b other e = other (sym a ∙ ap header_kind e ∙ b)
+
+no_form : (k : List ℕ) → (k ≡ codes "entry") ⊎ ((k ≡ codes "no_entry") ⊎ (k ≡ codes "range")) → (f : Form) → k ≡ keyword f → ⊥
+no_form k (inl h) f e = apart_kinds (codes "entry") (keyword f) 1 0 refl (form_kind f) (λ q. omega (arith, q)) (sym h ∙ e)
+no_form k (inr (inl h)) f e = apart_kinds (codes "no_entry") (keyword f) 2 0 refl (form_kind f) (λ q. omega (arith, q)) (sym h ∙ e)
+no_form k (inr (inr h)) f e = apart_kinds (codes "range") (keyword f) 3 0 refl (form_kind f) (λ q. omega (arith, q)) (sym h ∙ e)
+
+other_word : (v w : List ℕ) (us ws : List Token) (m n : ℕ) → header_kind v ≡ m → header_kind w ≡ n → (m ≡ n → ⊥)
+    → Open ∷ Word v ∷ us ≡ Open ∷ Word w ∷ ws → ⊥
+other_word v w us ws m n a b other e = let same : v ≡ w = cc in apart_kinds v w m n a b other same
+
+-- ---- an expression may begin here
+
+abbrev sample : List Token
+sample = Word (codes "freeze") ∷ Word (97 ∷ []) ∷ Word (47 ∷ 97 ∷ []) ∷ Close ∷ []
+
+done : Completable []
+done more = ([], refl)
+
+body_opens : (more : ℕ) → (rest : List Token) × AreSyms body_syms more (Open ∷ (sample ++ rest))
+body_opens more =
+    let n : 62 + more + 1 ≡ 63 + more = omega arith in
+    let n' : IsExpr (63 + more) (Open ∷ sample) freeze_a =
+    subst (λ m. IsExpr m (Open ∷ sample) freeze_a) (omega arith) (opened_is_expr (62 + more) (Open ∷ sample) freeze_a (opened_a (62 + more))) in
+    (Close ∷ [], (Open ∷ sample, Close ∷ [], refl, (freeze_a, n'), (Close ∷ [], [], refl, refl, refl)))
+
+body_open : (more : ℕ) → Begins (AreSyms body_syms) more (Open ∷ [])
+body_open more = let b = body_opens more in (sample ++ b.0, b.1)
+
+body_freeze : Begins (AreSyms body_syms) 0 (Open ∷ Word (codes "freeze") ∷ [])
+body_freeze = let b = body_opens 0 in (Word (97 ∷ []) ∷ Word (47 ∷ 97 ∷ []) ∷ Close ∷ b.0, b.1)
+
+no_range : (more : ℕ) (ws : List Token) → AreSyms body_syms more ws → AreSyms range_syms more ws
+no_range more ws h = ([], ws, refl, (4194304, 1073741824, inl (refl, refl, refl)), h)
+
+pub range_open : (more : ℕ) → Begins (AreSyms range_syms) more (Open ∷ [])
+range_open more = let b = body_open more in (b.0, no_range more (Open ∷ b.0) b.1)
+
+range_freeze : Begins (AreSyms range_syms) 0 (Open ∷ Word (codes "freeze") ∷ [])
+range_freeze = let b = body_freeze in (b.0, no_range 0 (Open ∷ Word (codes "freeze") ∷ b.0) b.1)
+
+-- ---- the range
+
+abbrev IsRangeKey : List ℕ → Type 0
+IsRangeKey k = k ≡ codes "range"
+
+range_differs : DiffersAtKeys (AreSyms body_syms) (AreSyms range_syms) IsRangeKey
+range_differs more ws h =
+    elim h.3.2 [
+      | inl n ↦ inl (subst (AreSyms body_syms more) (sym (h.2 ∙ ap (λ us. us ++ h.1) n.0)) h.4)
+      | inr r ↦ inr (codes "range", Word r.0 ∷ Word r.1 ∷ Close ∷ h.1, h.2 ∙ ap (λ us. us ++ h.1) r.2, refl)
+    ]
+
+pub range_absent : (ts : List Placed) → ((after : List Placed) → IsOpening ts (codes "range") after → ⊥)
+    → IsPart ARange body_syms (λ ws. IsRange ws 4194304 1073741824) ts ts
+range_absent ts none = record {
+  front = [];
+  parts = refl;
+  value = inl (refl, refl, refl);
+  leads = λ stop h.
+      unless_key (AreSyms body_syms) (AreSyms range_syms) IsRangeKey ts stop no_range range_differs
+      (λ k after o is. let P : List ℕ → Type 0 = λ u. IsOpening ts u after in none after (subst P is o)) body_open
+      (codes "freeze") body_freeze no_number_freeze h;
+}
+
+range_lead : (ts after : List Placed) → IsOpening ts (codes "range") after → (stop : Stop)
+    → WhyStops (AreSyms (Low ∷ body_syms)) after stop → WhyStops (AreSyms range_syms) ts stop
+range_lead ts after o stop h =
+    opened_lead (AreSyms (Low ∷ body_syms)) (AreSyms range_syms) (codes "range") ts after stop o
+    (λ more ws a.
+    let l = a.3 in
+    (Open ∷ Word (codes "range") ∷ a.0, a.1, ap (λ us. Open ∷ Word (codes "range") ∷ us) a.2,
+    (l.2, l.3, inr (l.0, l.1, ap (λ us. Open ∷ Word (codes "range") ∷ us) l.4, l.5, l.6, l.7)), a.4))
+    (λ more ws a.
+    elim a.3.2 [
+      | inl n ↦
+          let q : Open ∷ Word (codes "range") ∷ ws ≡ a.1 = a.2 ∙ ap (λ us. us ++ a.1) n.0 in
+          let w = body_word more (codes "range") ws (subst (AreSyms body_syms more) (sym q) a.4) in
+          absurd (no_form (codes "range") (inr (inr refl)) w.0 w.1)
+      | inr r ↦
+          let q : Open ∷ Word (codes "range") ∷ ws ≡ Open ∷ Word (codes "range") ∷ Word r.0 ∷ Word r.1 ∷ Close ∷ a.1 = a.2 ∙ ap (λ us. us ++ a.1) r.2 in
+          let k : ws ≡ Word r.0 ∷ Word r.1 ∷ Close ∷ a.1 = cc in
+          (Word r.0 ∷ Word r.1 ∷ Close ∷ [], a.1, k, (r.0, r.1, a.3.0, a.3.1, refl, r.3, r.4, r.5), a.4)
+    ]) h
+
+pub range_fails : (ts after : List Placed) (stop : Stop) → IsOpening ts (codes "range") after → Fails (Low ∷ []) after stop
+    → WhyStops (AreSyms range_syms) ts stop
+range_fails ts after stop o f = range_lead ts after o stop (f.why body_syms (solid_end 63 [] done))
+
+opening_words : (ts after end front : List Placed) (k : List ℕ) → IsOpening ts k after → after ≡ front ++ end
+    → (whole : List Placed) × (ts ≡ whole ++ end) × (words_of whole ≡ Open ∷ Word k ∷ words_of front)
+opening_words ts after end front k o e =
+    (o.0 ∷ o.1 ∷ front, o.2 ∙ ap (λ us. o.0 ∷ o.1 ∷ us) e,
+    ap (λ u. u ∷ o.1.token ∷ words_of front) o.3 ∙ ap (λ u. Open ∷ u ∷ words_of front) o.4)
+
+pub range_read : (ts after end : List Placed) (lo hi : ℕ) → IsOpening ts (codes "range") after
+    → AreRead (Low ∷ []) (AreBounds lo hi) after end
+    → IsPart ARange body_syms (λ ws. IsRange ws lo hi) ts end
+range_read ts after end lo hi o r =
+    let w = opening_words ts after end r.front (codes "range") o r.parts in
+    let v = r.value in
+    record {
+      front = w.0;
+      parts = w.1;
+      value = inr (v.0, v.1, w.2 ∙ ap (λ us. Open ∷ Word (codes "range") ∷ us) v.2, v.3, v.4, v.5);
+      leads = λ stop h. range_lead ts after o stop (r.leads body_syms stop h);
+    }
+
+-- ---- the start
+
+abbrev IsStartKey : List ℕ → Type 0
+IsStartKey k = (k ≡ codes "entry") ⊎ (k ≡ codes "no_entry")
+
+abbrev start_syms : List Sym
+start_syms = AStart ∷ range_syms
+
+pub no_start : (more : ℕ) (ws : List Token) → AreSyms range_syms more ws → AreSyms start_syms more ws
+no_start more ws h = ([], ws, refl, (Named (codes "_start"), inl (refl, refl)), h)
+
+start_split : (more : ℕ) (ws front rest : List Token) (s : Start) → ws ≡ front ++ rest → IsStart front s → AreSyms range_syms more rest
+    → AreSyms range_syms more ws ⊎ ((k : List ℕ) × (us : List Token) × (ws ≡ Open ∷ Word k ∷ us) × IsStartKey k)
+start_split more ws front rest (Named name) e (inl n) a = inl (subst (AreSyms range_syms more) (sym (e ∙ ap (λ us. us ++ rest) n.0)) a)
+start_split more ws front rest (Named name) e (inr n) a =
+    inr (codes "entry", Word name ∷ Close ∷ rest, e ∙ ap (λ us. us ++ rest) n.0, inl refl)
+start_split more ws front rest NoEntry e n a =
+    inr (codes "no_entry", Close ∷ rest, e ∙ ap (λ us. us ++ rest) n, inr refl)
+
+start_differs : DiffersAtKeys (AreSyms range_syms) (AreSyms start_syms) IsStartKey
+start_differs more ws h = start_split more ws h.0 h.1 h.3.0 h.2 h.3.1 h.4
+
+pub start_absent : (ts : List Placed) (name : List ℕ) → name ≡ codes "_start"
+    → ((k : List ℕ) (after : List Placed) → IsOpening ts k after → IsStartKey k → ⊥)
+    → IsPart AStart range_syms (λ ws. IsStart ws (Named name)) ts ts
+start_absent ts name is none = record {
+  front = [];
+  parts = refl;
+  value = inl (refl, is);
+  leads = λ stop h.
+      unless_key (AreSyms range_syms) (AreSyms start_syms) IsStartKey ts stop no_start start_differs none range_open
+      (codes "freeze") range_freeze no_number_freeze h;
+}
+
+no_start_word : (more : ℕ) (k : List ℕ) (ws : List Token) → IsStartKey k → AreSyms range_syms more (Open ∷ Word k ∷ ws) → ⊥
+no_start_word more k ws (inl h) a =
+    elim (range_word more k ws a) [
+      | inl r ↦ apart_kinds (codes "entry") (codes "range") 1 3 refl refl (λ q. omega (arith, q)) (sym h ∙ r)
+      | inr f ↦ no_form k (inl h) f.0 f.1
+    ]
+no_start_word more k ws (inr h) a =
+    elim (range_word more k ws a) [
+      | inl r ↦ apart_kinds (codes "no_entry") (codes "range") 2 3 refl refl (λ q. omega (arith, q)) (sym h ∙ r)
+      | inr f ↦ no_form k (inr (inl h)) f.0 f.1
+    ]
+
+entry_front : (more : ℕ) (ws front rest : List Token) (s : Start) → Open ∷ Word (codes "entry") ∷ ws ≡ front ++ rest → IsStart front s
+    → AreSyms range_syms more rest → AreSyms (AName ∷ It Close ∷ range_syms) more ws
+entry_front more ws front rest (Named name) e (inl n) a =
+    let q : Open ∷ Word (codes "entry") ∷ ws ≡ rest = e ∙ ap (λ us. us ++ rest) n.0 in
+    absurd (no_start_word more (codes "entry") ws (inl refl) (subst (AreSyms range_syms more) (sym q) a))
+entry_front more ws front rest (Named name) e (inr n) a =
+    let q : Open ∷ Word (codes "entry") ∷ ws ≡ Open ∷ Word (codes "entry") ∷ Word name ∷ Close ∷ rest = e ∙ ap (λ us. us ++ rest) n.0 in
+    let k : ws ≡ Word name ∷ Close ∷ rest = cc in
+    (Word name ∷ [], Close ∷ rest, k, (name, refl, n.1), (Close ∷ [], rest, refl, refl, a))
+entry_front more ws front rest NoEntry e n a =
+    absurd (other_word (codes "entry") (codes "no_entry") ws (Close ∷ rest) 1 2 refl refl (λ q. omega (arith, q)) (e ∙ ap (λ us. us ++ rest) n))
+
+entry_lead : (ts after : List Placed) → IsOpening ts (codes "entry") after → (stop : Stop)
+    → WhyStops (AreSyms (AName ∷ It Close ∷ range_syms)) after stop → WhyStops (AreSyms start_syms) ts stop
+entry_lead ts after o stop h =
+    opened_lead (AreSyms (AName ∷ It Close ∷ range_syms)) (AreSyms start_syms) (codes "entry") ts after stop o
+    (λ more ws a.
+    let b = a.4 in
+    let k : ws ≡ Word a.3.0 ∷ Close ∷ b.1 = a.2 ∙ ap (λ us. us ++ a.1) a.3.1 ∙ ap (λ us. Word a.3.0 ∷ us) (b.2 ∙ ap (λ us. us ++ b.1) b.3) in
+    (Open ∷ Word (codes "entry") ∷ Word a.3.0 ∷ Close ∷ [], b.1, ap (λ us. Open ∷ Word (codes "entry") ∷ us) k,
+    (Named a.3.0, inr (refl, a.3.2)), b.4))
+    (λ more ws a. entry_front more ws a.0 a.1 a.3.0 a.2 a.3.1 a.4) h
+
+pub entry_fails : (ts after : List Placed) (stop : Stop) → IsOpening ts (codes "entry") after → Fails (AName ∷ It Close ∷ []) after stop
+    → WhyStops (AreSyms start_syms) ts stop
+entry_fails ts after stop o f =
+    entry_lead ts after o stop (f.why range_syms (λ more. let b = range_open more in (Open ∷ b.0, b.1)))
+
+pub entry_read : (ts after end : List Placed) (name : List ℕ) → IsOpening ts (codes "entry") after
+    → AreRead (AName ∷ It Close ∷ []) (λ ws. (ws ≡ Word name ∷ Close ∷ []) × IsSymName name) after end
+    → IsPart AStart range_syms (λ ws. IsStart ws (Named name)) ts end
+entry_read ts after end name o r =
+    let w = opening_words ts after end r.front (codes "entry") o r.parts in
+    record {
+      front = w.0;
+      parts = w.1;
+      value = inr (w.2 ∙ ap (λ us. Open ∷ Word (codes "entry") ∷ us) r.value.0, r.value.1);
+      leads = λ stop h. entry_lead ts after o stop (r.leads range_syms stop h);
+    }
+
+none_front : (more : ℕ) (ws front rest : List Token) (s : Start) → Open ∷ Word (codes "no_entry") ∷ ws ≡ front ++ rest → IsStart front s
+    → AreSyms range_syms more rest → AreSyms (It Close ∷ range_syms) more ws
+none_front more ws front rest (Named name) e (inl n) a =
+    let q : Open ∷ Word (codes "no_entry") ∷ ws ≡ rest = e ∙ ap (λ us. us ++ rest) n.0 in
+    absurd (no_start_word more (codes "no_entry") ws (inr refl) (subst (AreSyms range_syms more) (sym q) a))
+none_front more ws front rest (Named name) e (inr n) a =
+    absurd (other_word (codes "no_entry") (codes "entry") ws (Word name ∷ Close ∷ rest) 2 1 refl refl (λ q. omega (arith, q)) (e ∙ ap (λ us. us ++ rest) n.0))
+none_front more ws front rest NoEntry e n a =
+    let q : Open ∷ Word (codes "no_entry") ∷ ws ≡ Open ∷ Word (codes "no_entry") ∷ Close ∷ rest = e ∙ ap (λ us. us ++ rest) n in
+    let k : ws ≡ Close ∷ rest = cc in (Close ∷ [], rest, k, refl, a)
+
+none_lead : (ts after : List Placed) → IsOpening ts (codes "no_entry") after → (stop : Stop)
+    → WhyStops (AreSyms (It Close ∷ range_syms)) after stop → WhyStops (AreSyms start_syms) ts stop
+none_lead ts after o stop h =
+    opened_lead (AreSyms (It Close ∷ range_syms)) (AreSyms start_syms) (codes "no_entry") ts after stop o
+    (λ more ws a.
+    (Open ∷ Word (codes "no_entry") ∷ Close ∷ [], a.1,
+    ap (λ us. Open ∷ Word (codes "no_entry") ∷ us) (a.2 ∙ ap (λ us. us ++ a.1) a.3), (NoEntry, refl), a.4))
+    (λ more ws a. none_front more ws a.0 a.1 a.3.0 a.2 a.3.1 a.4) h
+
+pub none_fails : (ts after : List Placed) (stop : Stop) → IsOpening ts (codes "no_entry") after → Fails (It Close ∷ []) after stop
+    → WhyStops (AreSyms start_syms) ts stop
+none_fails ts after stop o f =
+    none_lead ts after o stop (f.why range_syms (λ more. let b = range_open more in (Open ∷ b.0, b.1)))
+
+pub none_read : (ts after end : List Placed) → IsOpening ts (codes "no_entry") after
+    → AreRead (It Close ∷ []) (λ ws. ws ≡ Close ∷ []) after end
+    → IsPart AStart range_syms (λ ws. IsStart ws NoEntry) ts end
+none_read ts after end o r =
+    let w = opening_words ts after end r.front (codes "no_entry") o r.parts in
+    record {
+      front = w.0;
+      parts = w.1;
+      value = w.2 ∙ ap (λ us. Open ∷ Word (codes "no_entry") ∷ us) r.value;
+      leads = λ stop h. none_lead ts after o stop (r.leads range_syms stop h);
+    }
+
+-- the openings that do not count
+pub one_opening : (ts after after' : List Placed) (k k' : List ℕ) → IsOpening ts k after → IsOpening ts k' after' → k ≡ k'
+one_opening ts after after' k k' o p =
+    let q : o.0 ∷ o.1 ∷ after ≡ p.0 ∷ p.1 ∷ after' = sym o.2 ∙ p.2 in
+    let same : o.1 ≡ p.1 = cc in
+    let w : Word k ≡ Word k' = sym o.4 ∙ ap (λ t. t.token) same ∙ p.4 in cc

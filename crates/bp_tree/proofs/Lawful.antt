@@ -1,0 +1,103 @@
+-- What a text says is a blueprint: its merges have two operands, and it nests as deep as it may.
+use Rattle.std.proofs.Common.{◌≡◌, ◌≤◌, ℕ, zero, suc, ◌+◌, Bool, true, false, ◌&&◌, nat_le, max, fold, map, List, [], ◌∷◌, ◌++◌, refl, sym, ap, subst, ◌∙◌, ◌⊎◌, inl, inr, arith, length, IsTrue}
+use Rattle.std.specs.List.{list_all}
+use Rattle.omos_model.specs.Op.{Op, Rename, Restrict, Freeze, Hide, Show, CopyAs}
+use Rattle.omos_model.specs.ImageParts.{formed_layer, is_formed, nesting_layer, nesting}
+use Rattle.omos_model.specs.declared.expr.Expr.{Expr, fold-Expr}
+use Rattle.omos_model.specs.declared.expr.Expr.TheOpen.{Expr-F}
+use Rattle.omos_model.specs.declared.expr.Expr.TheVariants as expr
+use Rattle.omos_model.specs.declared.expr.Expr.TheFolds.{fold-roll-Expr}
+use Rattle.bp_tree.specs.Tokens.{Token, Open, Close, Word}
+use Rattle.bp_tree.specs.Grammar.{IsExpr, IsPathOf, IsOpened, Merges, Overrides, Applies, AreExprs, IsOp, op_nesting, applied}
+use Rattle.bp_tree.proofs.Samples.{expr_cases}
+
+abbrev pub IsFit : ℕ → Expr → Type 0
+IsFit n e = (is_formed e ≡ true) × (nesting e ≤ n)
+
+path_fits : (n : ℕ) (ts : List Token) (e : Expr) → IsPathOf ts e → IsFit n e
+path_fits n ts e h =
+    let p : List ℕ = h.0 in
+    let f : is_formed (expr.Path p) ≡ true = ap is_formed (sym (expr.rolls-Path p)) ∙ fold-roll-Expr Bool formed_layer (Expr-F.Path p) in
+    let d : nesting (expr.Path p) ≡ 0 = ap nesting (sym (expr.rolls-Path p)) ∙ fold-roll-Expr ℕ nesting_layer (Expr-F.Path p) in
+    (ap is_formed h.2 ∙ f, omega (arith, ap nesting h.2, d))
+
+all_formed : (P : List Token → Expr → Type 0) (n : ℕ) → ((ts : List Token) (x : Expr) → P ts x → IsFit n x)
+    → (ts : List Token) (xs : List Expr) → AreExprs P ts xs → list_all (λ x. x) (map is_formed xs) ≡ true
+all_formed P n fits ts [] are = refl
+all_formed P n fits ts (x ∷ xs) are =
+    let h : is_formed x ≡ true = (fits are.0 x are.3).0 in
+    let k : list_all (λ b. b) (map is_formed xs) ≡ true = all_formed P n fits are.1 xs are.4 in
+    rw (h, k) refl
+
+all_low : (P : List Token → Expr → Type 0) (n : ℕ) → ((ts : List Token) (x : Expr) → P ts x → IsFit n x)
+    → (ts : List Token) (xs : List Expr) (m : ℕ) → m ≤ n → AreExprs P ts xs → fold max m (map nesting xs) ≤ n
+all_low P n fits ts [] m low are = low
+all_low P n fits ts (x ∷ xs) m low are =
+    let h : nesting x ≤ n = (fits are.0 x are.3).1 in
+    all_low P n fits are.1 xs (max m (nesting x)) (omega (arith, h, low)) are.4
+
+formed_count : (xs : List Expr) → length (map is_formed xs) ≡ length xs
+formed_count [] = refl
+formed_count (x ∷ xs) = omega (arith, formed_count xs)
+
+merge_fits : (n : ℕ) (xs : List Expr) → 2 ≤ length xs → list_all (λ x. x) (map is_formed xs) ≡ true
+    → fold max 0 (map nesting xs) ≤ n → IsFit (suc n) (expr.Merge xs)
+merge_fits n xs two all low =
+    let f : is_formed (expr.Merge xs) ≡ (nat_le 2 (length (map is_formed xs)) && list_all (λ x. x) (map is_formed xs)) =
+    ap is_formed (sym (expr.rolls-Merge xs)) ∙ fold-roll-Expr Bool formed_layer (Expr-F.Merge xs) in
+    let d : nesting (expr.Merge xs) ≡ fold max 0 (map nesting xs) + 1 =
+    ap nesting (sym (expr.rolls-Merge xs)) ∙ fold-roll-Expr ℕ nesting_layer (Expr-F.Merge xs) in
+    let l : length (map is_formed xs) ≡ length xs = formed_count xs in
+    let t : nat_le 2 (length (map is_formed xs)) ≡ true = grind (arith, l, two) in
+    (f ∙ rw (t, all) refl, omega (arith, d, low))
+
+override_fits : (n : ℕ) (x y : Expr) → IsFit n x → IsFit n y → IsFit (suc n) (expr.Override x y)
+override_fits n x y h k =
+    let f : is_formed (expr.Override x y) ≡ (is_formed x && is_formed y) =
+    ap is_formed (sym (expr.rolls-Override x y)) ∙ fold-roll-Expr Bool formed_layer (Expr-F.Override x y) in
+    let d : nesting (expr.Override x y) ≡ max (nesting x) (nesting y) + 1 =
+    ap nesting (sym (expr.rolls-Override x y)) ∙ fold-roll-Expr ℕ nesting_layer (Expr-F.Override x y) in
+    let p : is_formed x ≡ true = h.0 in
+    let q : is_formed y ≡ true = k.0 in
+    (f ∙ rw (p, q) refl, omega (arith, d, h.1, k.1))
+
+op_fits : (n : ℕ) (op : Op) (x : Expr) → IsFit n x → op_nesting op ≤ n → IsFit (suc n) (applied op x)
+op_fits n (Rename a b) x h nest =
+    let f : is_formed (expr.Rename a b x) ≡ is_formed x = ap is_formed (sym (expr.rolls-Rename a b x)) ∙ fold-roll-Expr Bool formed_layer (Expr-F.Rename a b x) in
+    let d : nesting (expr.Rename a b x) ≡ nesting x + 1 = ap nesting (sym (expr.rolls-Rename a b x)) ∙ fold-roll-Expr ℕ nesting_layer (Expr-F.Rename a b x) in
+    (f ∙ h.0, omega (arith, d, h.1))
+op_fits n (Restrict a) x h nest =
+    let f : is_formed (expr.Restrict a x) ≡ is_formed x = ap is_formed (sym (expr.rolls-Restrict a x)) ∙ fold-roll-Expr Bool formed_layer (Expr-F.Restrict a x) in
+    let d : nesting (expr.Restrict a x) ≡ nesting x + 1 = ap nesting (sym (expr.rolls-Restrict a x)) ∙ fold-roll-Expr ℕ nesting_layer (Expr-F.Restrict a x) in
+    (f ∙ h.0, omega (arith, d, h.1))
+op_fits n (Freeze a) x h nest =
+    let f : is_formed (expr.Freeze a x) ≡ is_formed x = ap is_formed (sym (expr.rolls-Freeze a x)) ∙ fold-roll-Expr Bool formed_layer (Expr-F.Freeze a x) in
+    let d : nesting (expr.Freeze a x) ≡ nesting x + 1 = ap nesting (sym (expr.rolls-Freeze a x)) ∙ fold-roll-Expr ℕ nesting_layer (Expr-F.Freeze a x) in
+    (f ∙ h.0, omega (arith, d, h.1))
+op_fits n (Hide a) x h nest =
+    let f : is_formed (expr.Hide a x) ≡ is_formed x = ap is_formed (sym (expr.rolls-Hide a x)) ∙ fold-roll-Expr Bool formed_layer (Expr-F.Hide a x) in
+    let d : nesting (expr.Hide a x) ≡ nesting x + 1 = ap nesting (sym (expr.rolls-Hide a x)) ∙ fold-roll-Expr ℕ nesting_layer (Expr-F.Hide a x) in
+    (f ∙ h.0, omega (arith, d, h.1))
+op_fits n (Show names) x h nest =
+    let f : is_formed (expr.Show names x) ≡ is_formed x = ap is_formed (sym (expr.rolls-Show names x)) ∙ fold-roll-Expr Bool formed_layer (Expr-F.Show names x) in
+    let d : nesting (expr.Show names x) ≡ max 1 (nesting x) + 1 = ap nesting (sym (expr.rolls-Show names x)) ∙ fold-roll-Expr ℕ nesting_layer (Expr-F.Show names x) in
+    (f ∙ h.0, omega (arith, d, h.1, nest))
+op_fits n (CopyAs a b) x h nest =
+    let f : is_formed (expr.CopyAs a b x) ≡ is_formed x = ap is_formed (sym (expr.rolls-CopyAs a b x)) ∙ fold-roll-Expr Bool formed_layer (Expr-F.CopyAs a b x) in
+    let d : nesting (expr.CopyAs a b x) ≡ nesting x + 1 = ap nesting (sym (expr.rolls-CopyAs a b x)) ∙ fold-roll-Expr ℕ nesting_layer (Expr-F.CopyAs a b x) in
+    (f ∙ h.0, omega (arith, d, h.1))
+
+opened_fits : (n : ℕ) → ((ts : List Token) (x : Expr) → IsExpr n ts x → IsFit n x)
+    → (ts : List Token) (e : Expr) → IsOpened n (IsExpr n) ts e → IsFit (suc n) e
+opened_fits n fits ts e (Merges inner xs eq is two are) =
+    subst (IsFit (suc n)) (sym is) (merge_fits n xs two (all_formed (IsExpr n) n fits inner xs are) (all_low (IsExpr n) n fits inner xs 0 (omega arith) are))
+opened_fits n fits ts e (Overrides l r x y eq is px py) =
+    subst (IsFit (suc n)) (sym is) (override_fits n x y (fits l x px) (fits r y py))
+opened_fits n fits ts e (Applies op inner x eq is isop nest px) =
+    subst (IsFit (suc n)) (sym is) (op_fits n op x (fits inner x px) nest)
+
+pub expr_fits : (n : ℕ) (ts : List Token) (e : Expr) → IsExpr n ts e → IsFit n e
+unfolding IsExpr
+expr_fits zero ts e h = path_fits 0 ts e h
+expr_fits (suc n) ts e h =
+    elim h [ inl p ↦ path_fits (suc n) ts e p | inr o ↦ opened_fits n (expr_fits n) ts e o ]

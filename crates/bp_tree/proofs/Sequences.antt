@@ -1,0 +1,133 @@
+-- Symbols read one after the other, and languages that differ elsewhere.
+use Rattle.std.proofs.Common.{◌≡◌, ℕ, List, [], ◌∷◌, ◌++◌, refl, sym, ap, subst, ◌∙◌, append_assoc}
+use Rattle.omos_model.specs.declared.refusal.BpFault.{BpFault}
+use Rattle.omos_model.specs.declared.refusal.BpFault.TheVariants.{Long, Byte, Shape, Deep, Number, Range}
+use Rattle.bp_tree.specs.Tokens.{Token, Open, Close, Word, Placed}
+use Rattle.bp_tree.specs.Texts.{words_of}
+use Rattle.bp_tree.specs.TextFaults.{Language, Begins, CallsForNumber, IsTokenFault}
+use Rattle.bp_tree.specs.Symbols.{Sym, AreSyms, Completable, Fails, AreRead, WhyStops}
+use Rattle.bp_tree.specs.declared.stop.Stop.{Stop}
+use Rattle.bp_tree.specs.declared.stop.Stop.TheVariants.{Early, At}
+use Rattle.bp_tree.proofs.NameLists.{words-append}
+
+-- something is said in the symbols
+abbrev pub IsSolid : List Sym → Type 0
+IsSolid b = (ss : List Sym) → Completable ss → Completable (b ++ ss)
+
+pub fails_first : (a b : List Sym) (ts : List Placed) (stop : Stop) → IsSolid b → Fails a ts stop
+    → Fails (a ++ b) ts stop
+fails_first a b ts stop solid f = record {
+  why = λ ss c.
+      let P : List Sym → Type 0 = λ l. WhyStops (AreSyms l) ts stop in
+      subst P (sym (append_assoc a b ss)) (f.why (b ++ ss) (solid ss c));
+}
+
+pub then_fails : (a b : List Sym) (V : List Token → Type 0) (ts now : List Placed) (stop : Stop)
+    → AreRead a V ts now → Fails b now stop → Fails (a ++ b) ts stop
+then_fails a b V ts now stop r f = record {
+  why = λ ss c.
+      let P : List Sym → Type 0 = λ l. WhyStops (AreSyms l) ts stop in
+      subst P (sym (append_assoc a b ss)) (r.leads (b ++ ss) stop (f.why ss c));
+}
+
+pub then_read : (a b : List Sym) (V W U : List Token → Type 0) (ts now after : List Placed)
+    → AreRead a V ts now → AreRead b W now after
+    → ((xs ys : List Token) → V xs → W ys → U (xs ++ ys)) → AreRead (a ++ b) U ts after
+then_read a b V W U ts now after r q both = record {
+  front = r.front ++ q.front;
+  parts = r.parts ∙ ap (λ us. r.front ++ us) q.parts ∙ sym (append_assoc r.front q.front after);
+  value = subst U (sym (words-append r.front q.front)) (both (words_of r.front) (words_of q.front) r.value q.value);
+  leads = λ ss stop h.
+      let P : List Sym → Type 0 = λ l. WhyStops (AreSyms l) ts stop in
+      subst P (sym (append_assoc a b ss)) (r.leads (b ++ ss) stop (q.leads ss stop h));
+}
+
+-- ---- where two languages differ in no beginning that stands here
+
+narrow_fault : (K L : Language) (ts : List Token) (t : Token) (place : ℕ) (fault : BpFault)
+    → ((more : ℕ) → Begins K more (ts ++ t ∷ []) → Begins L more (ts ++ t ∷ []))
+    → ((more : ℕ) → Begins L more (ts ++ t ∷ []) → Begins K more (ts ++ t ∷ []))
+    → (CallsForNumber K ts → CallsForNumber L ts) → (CallsForNumber L ts → CallsForNumber K ts)
+    → IsTokenFault K ts t place fault → IsTokenFault L ts t place fault
+narrow_fault K L ts t place Long f g c d h = h
+narrow_fault K L ts t place (Byte p) f g c d h = h
+narrow_fault K L ts t place (Deep p) f g c d h = (h.0, (h.1.0, (h.1.1.0, f h.1.1.0 h.1.1.1)))
+narrow_fault K L ts t place (Number p) f g c d h = (h.0, (c h.1.0, h.1.1))
+narrow_fault K L ts t place (Range p) f g c d h = (h.0, (c h.1.0, h.1.1))
+narrow_fault K L ts t place (Shape p) f g c d h = (
+  h.0,
+  (λ x. h.1 (x.0, (x.1.0, g x.1.0 x.1.1))),
+  (λ x. h.2 (d x.0, x.1)),
+  λ x. h.3 (d x.0, x.1),
+)
+
+pub narrowed : (K L : Language) (ts : List Placed) (stop : Stop)
+    → ((more : ℕ) (ws : List Token) → K more ws → L more ws)
+    → (L 0 (words_of ts) → K 0 (words_of ts))
+    → ((front : List Placed) (t : Placed) (behind : List Placed) → ts ≡ front ++ t ∷ behind
+    → (more : ℕ) → Begins L more (words_of front ++ t.token ∷ []) → Begins K more (words_of front ++ t.token ∷ []))
+    → ((front : List Placed) (t : Placed) (behind : List Placed) → ts ≡ front ++ t ∷ behind
+    → (CallsForNumber K (words_of front) → CallsForNumber L (words_of front))
+    × (CallsForNumber L (words_of front) → CallsForNumber K (words_of front)))
+    → WhyStops K ts stop → WhyStops L ts stop
+narrowed K L ts Early incl whole own calls h = ((h.0.0, incl 0 (words_of ts ++ h.0.0) h.0.1), λ l. h.1 (whole l))
+narrowed K L ts (At fault) incl whole own calls h =
+    let both = calls h.front h.token h.behind h.parts in
+    record {
+      front = h.front;
+      token = h.token;
+      behind = h.behind;
+      parts = h.parts;
+      begins = (h.begins.0, incl 0 (words_of h.front ++ h.begins.0) h.begins.1);
+      stops = λ b. h.stops (own h.front h.token h.behind h.parts 0 b);
+      why = narrow_fault K L (words_of h.front) h.token.token h.token.place fault
+          (λ more b. (b.0, incl more ((words_of h.front ++ h.token.token ∷ []) ++ b.0) b.1))
+          (own h.front h.token h.behind h.parts) both.0 both.1 h.why;
+    }
+
+-- what L says beyond K begins with a parenthesis
+abbrev pub DiffersAtClose : Language → Language → Type 0
+DiffersAtClose K L =
+    (more : ℕ) (c : Token) (ws : List Token) → (c ≡ Close → ⊥) → L more (c ∷ ws) → K more (c ∷ ws)
+
+close_own : (K L : Language) → DiffersAtClose K L → (t : Placed) (after : List Placed)
+    → (t.token ≡ Close → ⊥) → (front : List Placed) (u : Placed) (behind : List Placed)
+    → t ∷ after ≡ front ++ u ∷ behind → (more : ℕ)
+    → Begins L more (words_of front ++ u.token ∷ []) → Begins K more (words_of front ++ u.token ∷ [])
+close_own K L d t after other [] u behind parts more b =
+    let n : t ≡ u = cc in (b.0, d more u.token b.0 (λ h. other (ap (λ p. p.token) n ∙ h)) b.1)
+close_own K L d t after other (f ∷ fs) u behind parts more b =
+    let n : t ≡ f = cc in
+    (b.0, d more f.token ((words_of fs ++ u.token ∷ []) ++ b.0) (λ h. other (ap (λ p. p.token) n ∙ h)) b.1)
+
+close_word : (K L : Language) → DiffersAtClose K L → (t : Placed) (after : List Placed)
+    → (t.token ≡ Close → ⊥) → (front : List Placed) (u : Placed) (behind : List Placed)
+    → t ∷ after ≡ front ++ u ∷ behind → (word : List ℕ)
+    → Begins L 0 (words_of front ++ Word word ∷ []) → Begins K 0 (words_of front ++ Word word ∷ [])
+close_word K L d t after other [] u behind parts word b = (b.0, d 0 (Word word) b.0 (λ h. cc) b.1)
+close_word K L d t after other (f ∷ fs) u behind parts word b =
+    let n : t ≡ f = cc in
+    (b.0, d 0 f.token ((words_of fs ++ Word word ∷ []) ++ b.0) (λ h. other (ap (λ p. p.token) n ∙ h)) b.1)
+
+-- and no parenthesis stands here
+pub unless_closed : (K L : Language) (ts : List Placed) (t : Placed) (after : List Placed) (stop : Stop)
+    → ts ≡ t ∷ after → (t.token ≡ Close → ⊥)
+    → ((more : ℕ) (ws : List Token) → K more ws → L more ws) → DiffersAtClose K L
+    → WhyStops K ts stop → WhyStops L ts stop
+unless_closed K L ts t after stop e other incl d h =
+    let P : List Placed → Type 0 = λ us. WhyStops L us stop in
+    let Q : List Placed → Type 0 = λ us. WhyStops K us stop in
+    subst P (sym e) (narrowed K L (t ∷ after) stop incl
+        (λ l. d 0 t.token (words_of after) other l)
+        (close_own K L d t after other)
+        (λ front u behind parts. (
+          (λ c. (
+            (c.0.0, (c.0.1.0, incl 0 ((words_of front ++ Word c.0.0 ∷ []) ++ c.0.1.0) c.0.1.1)),
+            λ word b. c.1 word (close_word K L d t after other front u behind parts word b),
+          )),
+          λ c. (
+            (c.0.0, close_word K L d t after other front u behind parts c.0.0 c.0.1),
+            λ word b. c.1 word (b.0, incl 0 ((words_of front ++ Word word ∷ []) ++ b.0) b.1),
+          ),
+        ))
+        (subst Q e h))

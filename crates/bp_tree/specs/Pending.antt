@@ -1,0 +1,28 @@
+-- What a reader has before it.
+use Rattle.std.specs.Prelude.{◌≡◌, ℕ, List, [], ◌∷◌, false, ◌==◌}
+use Rattle.bp_tree.specs.Tokens.{Token, Open, Close, Word, Barred, Placed, tokens_from, is_blank}
+use Rattle.bp_tree.specs.declared.token.Reader.{Reader}
+use Rattle.bp_tree.specs.declared.token.Next.{Next}
+use Rattle.bp_tree.specs.declared.token.Token as kind
+use Rattle.bp_tree.specs.declared.token.Token.TheVariants as code
+
+abbrev pub pending : Reader → List Placed
+pending r = tokens_from false r.place r.rest.now
+
+-- the bytes begin with a token, or there are none
+abbrev pub AtToken : List ℕ → Type 0
+AtToken [] = Unit {0}
+AtToken (byte ∷ rest) = ((byte == 59) ≡ false) × (is_blank byte ≡ false)
+
+abbrev pub seen : kind.Token → Token
+seen code.Open = Open
+seen code.Close = Close
+seen (code.Word w) = Word w.now
+seen (code.Barred b) = Barred b
+
+abbrev pub placed : Next → Placed
+placed n = record { token = seen n.token; place = n.place }
+
+-- the first of these tokens, before those that are pending after it
+abbrev pub IsNext : List Placed → Next → Type 0
+IsNext ts n = ts ≡ placed n ∷ pending n.after

@@ -1,0 +1,110 @@
+//! A text's tokens, one after the other.
+
+ghost use Rattle.std.specs.Prelude.{◌≡◌, ◌≤◌, [], false, take, drop, length, MatchOption, IsTrue};
+ghost use Rattle.std.specs.List.{list_all};
+ghost use Rattle.omos_model.specs.Names.{is_name_byte};
+ghost use Rattle.bp_tree.specs.Tokens.{begins_word};
+ghost use Rattle.bp_tree.specs.Tokens as spec;
+ghost use Rattle.bp_tree.specs.Pending.{pending, AtToken, IsNext};
+
+use crate::token::{Next, Reader, Token};
+
+/// Whether a word may have the byte.
+fn is_word_byte(byte: u8) -> bool
+    ensures { result ≡ is_name_byte byte }
+{
+    ((33 <= byte && byte <= 126) || (128 <= byte))
+        && byte != b'"'
+        && byte != b'('
+        && byte != b')'
+        && byte != b';'
+}
+
+/// Whether the byte separates tokens.
+fn is_blank(byte: u8) -> bool
+    ensures { result ≡ spec.is_blank byte }
+{
+    byte == b' ' || byte == b'\t' || byte == b'\n' || byte == b'\r'
+}
+
+/// Whether the bytes begin with a word.
+fn starts_word(bytes: &[u8]) -> bool
+    ensures { result ≡ begins_word bytes.now }
+{
+    match bytes {
+        [] => false,
+        [byte, ..] => is_word_byte(*byte),
+    }
+}
+
+/// How many bytes the word has that the bytes begin with.
+fn word_size(bytes: &[u8]) -> usize
+    ensures within { result ≤ length bytes.now }
+    ensures word { IsTrue (list_all is_name_byte (take result bytes.now)) }
+    ensures longest { begins_word (drop result bytes.now) ≡ false }
+{
+    for (size, byte) in bytes.iter().enumerate() {
+        if !is_word_byte(*byte) {
+            return size;
+        }
+    }
+    bytes.len()
+}
+
+impl<'a> Reader<'a> {
+    /// Goes past blanks and comments.
+    fn skip(self) -> Reader<'a>
+        ensures same { pending result ≡ pending self.entry }
+        ensures at { AtToken result.rest.now }
+    {
+        let mut rest = self.rest;
+        let mut place = self.place;
+        let mut comment = false;
+        'bytes: while let Some((byte, more)) = rest.split_first() {
+            if comment {
+                comment = *byte != b'\n';
+            } else if *byte == b';' {
+                comment = true;
+            } else if !is_blank(*byte) {
+                break;
+            }
+            rest = more;
+            place += 1;
+        }
+        Reader { rest, place }
+    }
+
+    /// The first token, or none at the end.
+    #[tactic(auto, using(crate::proofs::Runs::word_at))]
+    pub(crate) fn next(self) -> Option<Next<'a>>
+        ensures { MatchOption result (pending self.entry ≡ []) (IsNext (pending self.entry)) }
+    {
+        let Reader { rest, place } = self.skip();
+        if starts_word(rest) {
+            let size = word_size(rest);
+            let (word, more) = rest.split_at(size);
+            return Some(Next {
+                token: Token::Word(word),
+                place,
+                after: Reader {
+                    rest: more,
+                    place: place + size as u32,
+                },
+            });
+        }
+        let (byte, more) = rest.split_first()?;
+        let token = match *byte {
+            b'(' => Token::Open,
+            b')' => Token::Close,
+            byte => Token::Barred(byte),
+        };
+        Some(Next {
+            token,
+            place,
+            after: Reader {
+                rest: more,
+                place: place + 1,
+            },
+        })
+    }
+}
