@@ -3,13 +3,16 @@ OMOSD := crates/omosd/out/omosd
 
 FRAGMENT := crates/omos_fragment/out/omos_fragment
 
-.PHONY: help build demo examples real bench clean
+LINK_CASES := crates/link_cases/out/link_cases
+
+.PHONY: help build demo examples real links sweep bench clean
 
 help:
 	@echo "make build   proves omosd and builds it as $(OMOSD)"
 	@echo "make demo    links the examples with it, runs the images and shows what one prints"
 	@echo "make examples  the same, and compares what each prints"
 	@echo "make real    compares what is kept of compilers' objects with readelf, and runs with ld's"
+	@echo "make sweep   compares links of some 5,000 blueprints with plain descent through names"
 	@echo "make bench   times it beside other linkers, and counts instructions"
 	@echo "rt ci        proves and tests everything: the test command"
 
@@ -31,9 +34,18 @@ real: build
 	@rm -f crates/omos_fragment/out.log
 	@tests/real.py $(FRAGMENT) $(OMOSD)
 
-bench: build
+links:
+	@cd crates/link_cases && rt run > out.log 2>&1 || { tail -n 20 out.log; exit 1; }
+	@rm -f crates/link_cases/out.log
+
+sweep: links
+	@tests/sweep.py $(LINK_CASES)
+
+bench: build links
 	@bench/once.sh $(OMOSD)
 	@bench/objects.sh $(OMOSD)
+	@bench/operators.sh $(LINK_CASES)
+	@bench/evaluate.sh $(LINK_CASES)
 
 clean:
 	rm -rf crates/*/out

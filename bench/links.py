@@ -1,0 +1,102 @@
+#!/usr/bin/env python3
+"""Writes objects and a case of link_cases over them into the current folder, for bench/operators.sh
+and bench/evaluate.sh.
+
+    bench/links.py TESTS merge TABLES          a merge of objects with 2,000 names each
+    bench/links.py TESTS chain REFERENCES OPS  so many operators over open references, of 25,000 each
+    bench/links.py TESTS objects COUNT         a merge of plain objects
+    bench/links.py TESTS references COUNT      an object with so many relocations
+
+TESTS is the folder tests/, whose objects.py lays objects out. cases.txt links the blueprint, and
+idle.txt, with the same objects published, a path under which nothing is.
+"""
+
+import importlib.util
+import sys
+from pathlib import Path
+
+spec = importlib.util.spec_from_file_location("objects", Path(sys.argv[1]) / "objects.py")
+objects = importlib.util.module_from_spec(spec)
+spec.loader.exec_module(objects)
+
+CODE = b"\xe8\0\0\0\0" + b"\x90" * 11  # a call, whose field is at 1
+DEPTH = 60  # operators in one blueprint
+
+
+def write(published, size):
+    """The case that links /m, whose image has so many bytes."""
+    text = " & ".join(published)
+    Path("cases.txt").write_text(f"whole | {text} | /m | size {size}\n")
+    Path("idle.txt").write_text(f"idle | {text} | /none | line refused L1 /none 0 /none\n")
+
+
+def put(path, names, relas, published):
+    name = path.strip("/").replace("/", "-") + ".o"
+    Path(name).write_bytes(objects.plain(CODE, 16, names, relas))
+    published.append(f"{path} {name}")
+
+
+def pages(count):
+    """The bytes of an image of so many pieces of code."""
+    return 4096 + -(-len(CODE) * count // 4096) * 4096
+
+
+def merge_of(paths):
+    return f"(merge {' '.join(paths)})"
+
+
+def merge(tables):
+    published = []
+    for t in range(tables):
+        put(f"/t/{t}", [(f"n{t:03}x{n:04}", 0) for n in range(2000)], [], published)
+    whole = merge_of([f"/t/{t}" for t in range(tables)])
+    published.append(f"/m (image (no_entry) {whole})")
+    write(published, pages(tables))
+
+
+def chain(references, operators):
+    published = []
+    parts = references // 25000
+    for r in range(parts):
+        put(f"/r/{r}", [("x", None)], [(1, 4, 1, -4)] * 25000, published)
+    hidden = [f"h{n}" for n in range(operators // 3 + 1)]
+    put("/d", [("f", 0)] + [(name, 0) for name in hidden], [], published)
+    put("/x", [("x", 0)], [], published)
+    inner = merge_of([f"/r/{r}" for r in range(parts)] + ["/d"])
+    names = ["x", "y"]
+    for n in range(operators):
+        if n % 3 == 0:
+            inner = f"(rename {names[0]} {names[1]} {inner})"
+            names.reverse()
+        elif n % 3 == 1:
+            inner = f"(freeze f {inner})"
+        else:
+            inner = f"(hide {hidden[n // 3]} {inner})"
+        if n % DEPTH == DEPTH - 1:
+            published.append(f"/c/{n} (image (no_entry) {inner})")
+            inner = f"/c/{n}"
+    if names[0] == "y":
+        inner = f"(rename y x {inner})"
+    published.append(f"/m (image (no_entry) (merge {inner} /x))")
+    write(published, pages(parts + 2))
+
+
+def plain(count):
+    published = []
+    for n in range(count):
+        put(f"/o/{n}", [(f"f{n}", 0)], [(1, 4, 1, -4)], published)
+    whole = merge_of([f"/o/{n}" for n in range(count)])
+    published.append(f"/m (image (no_entry) {whole})")
+    write(published, pages(count))
+
+
+def references(count):
+    published = []
+    put("/o/0", [("f", 0)], [(1, 4, 1, -4)] * count, published)
+    put("/o/1", [("g", 0)], [], published)
+    published.append("/m (image (no_entry) (merge /o/0 /o/1))")
+    write(published, pages(2))
+
+
+KINDS = {"merge": merge, "chain": chain, "objects": plain, "references": references}
+KINDS[sys.argv[2]](*map(int, sys.argv[3:]))
