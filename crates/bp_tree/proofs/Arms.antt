@@ -1,5 +1,5 @@
 -- The answers of a call, handed on.
-use Rattle.std.proofs.Common.{◌≡◌, ℕ, List, [], ◌∷◌, ◌++◌, Result, Ok, Err, sym, subst, true, false}
+use Rattle.std.proofs.Common.{◌≡◌, List, Result, Ok, Err, sym, subst, true, false}
 use Rattle.std.specs.Prelude.{IsErr}
 use Rattle.std.specs.Result.{IsErrAnd}
 use Rattle.omos_base.specs.Fault.{MatchFault}

@@ -1,12 +1,10 @@
 -- Digits that are a number, and those that are none.
-use Rattle.std.proofs.Common.{◌≡◌, ◌≤◌, ◌<◌, ◌^◌, ◌==◌, ℕ, zero, suc, List, [], ◌∷◌, refl, sym, subst, ◌∙◌, ap, inl, inr, arith, length, drop, cond, true, false, slice_index, Option, Some, None, MatchOption}
+use Rattle.std.proofs.Common.{◌≡◌, ◌≤◌, ◌<◌, ◌^◌, ◌==◌, ℕ, zero, suc, List, [], ◌∷◌, refl, sym, subst, ◌∙◌, ap, inl, inr, arith, length, false, slice_index, Option, Some, None, MatchOption}
 use Rattle.std.specs.Char.{digit_value}
 use Rattle.std.specs.Str.{IsAscii, IsUtf8}
-use Rattle.std.specs.Result.{OkIff}
 use Rattle.std.specs.Str.Parse.{AllDigits, IsNumeral, digits_value, without_leading_plus}
 use Rattle.std.proofs.lemmas.Str.{IsUtf8-from_ascii}
-use Rattle.std.proofs.lemmas.Int.Digits.{digits_value-lt}
-use Rattle.bp_tree.specs.Numerals.{IsNumeralOf, IsDecimalOf, IsHexOf, IsNoNumeral}
+use Rattle.bp_tree.specs.Numerals.{IsNumeralOf, IsDecimalOf, IsNoNumeral}
 
 small_digit : (c : ℕ) → digit_value c < 36 → c < 128
 small_digit c h = grind arith

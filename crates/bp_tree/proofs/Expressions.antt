@@ -1,20 +1,20 @@
 -- Reading an expression: its first token, and its keyword.
-use Rattle.std.proofs.Common.{◌≡◌, ◌≤◌, ◌<◌, ℕ, zero, suc, ◌+◌, Bool, true, false, cond, List, [], ◌∷◌, ◌++◌, refl, sym, ap, subst, ◌∙◌, ◌⊎◌, inl, inr, codes, append_assoc, arith}
+use Rattle.std.proofs.Common.{◌≡◌, ◌≤◌, ℕ, suc, ◌+◌, cond, List, [], ◌∷◌, ◌++◌, refl, sym, ap, subst, ◌∙◌, inl, inr, codes, arith}
 use Rattle.omos_base.specs.Paths.{IsPath}
 use Rattle.omos_model.specs.Names.{same_name}
 use Rattle.omos_model.specs.declared.expr.Expr.{Expr}
 use Rattle.omos_model.specs.declared.expr.Expr.TheVariants as expr
 use Rattle.omos_model.specs.declared.refusal.BpFault.TheVariants.{Shape, Deep}
 use Rattle.bp_tree.specs.Tokens.{Token, Open, Close, Word, Placed}
-use Rattle.bp_tree.specs.Grammar.{IsExpr, IsPathOf, IsOpened, Merges, Overrides, Applies, AreExprs, op_words}
+use Rattle.bp_tree.specs.Grammar.{IsExpr, IsOpened, Merges, Overrides, Applies, op_words}
 use Rattle.bp_tree.specs.Texts.{words_of}
-use Rattle.bp_tree.specs.Symbols.{Sym, AnExpr, Inside, Exprs, IsSym, AreSyms, behind, keyword, form_nesting, Fails, AreRead, WhyStops, Completable}
+use Rattle.bp_tree.specs.Symbols.{Sym, AnExpr, Inside, AreSyms, behind, keyword, form_nesting, Fails, AreRead, WhyStops}
 use Rattle.bp_tree.specs.declared.form.Form.{Form}
 use Rattle.bp_tree.specs.declared.form.Form.TheVariants as form
 use Rattle.bp_tree.specs.declared.form.Applied.TheVariants as kind
 use Rattle.bp_tree.specs.declared.stop.Stop.{Stop}
 use Rattle.bp_tree.specs.declared.stop.Stop.TheVariants.{Early, At}
-use Rattle.bp_tree.proofs.Samples.{expr_a, freeze_a, opened_a, path_is_expr, opened_is_expr, expr_cases, path_a, no_number_path, no_number_freeze}
+use Rattle.bp_tree.proofs.Samples.{expr_a, freeze_a, opened_a, path_is_expr, opened_is_expr, expr_cases, no_number_path, no_number_freeze}
 use Rattle.bp_tree.proofs.Failing.{Sample, IsNeverEmpty, completes, begins_with, head_of, fails_early, fails_shape, leads_step}
 use Rattle.bp_tree.proofs.Opened.{both, apart, form_opens, opened_form}
 
@@ -204,9 +204,13 @@ pub open_lead : (room r : ℕ) (ts : List Placed) (t : Placed) (after : List Pla
     → WhyStops (AreSyms (Inside r ∷ ss)) after stop → WhyStops (AreSyms (AnExpr room ∷ ss)) ts stop
 open_lead room r ts t after e same is_suc = leads_step (AnExpr room ∷ []) (Inside r ∷ []) t ts after e
     (λ ss more ws a.
-    let n : suc (r + more) ≡ room + more = omega arith in
-    (Open ∷ a.0, a.1, ap (λ u. u ∷ ws) same ∙ ap (λ us. Open ∷ us) a.2,
-    (a.3.0, subst (λ m. IsExpr m (Open ∷ a.0) a.3.0) n (opened_is_expr (r + more) (Open ∷ a.0) a.3.0 a.3.1)), a.4))
+    let n : suc (r + more) ≡ room + more = omega arith in (
+      Open ∷ a.0,
+      a.1,
+      ap (λ u. u ∷ ws) same ∙ ap (λ us. Open ∷ us) a.2,
+      (a.3.0, subst (λ m. IsExpr m (Open ∷ a.0) a.3.0) n (opened_is_expr (r + more) (Open ∷ a.0) a.3.0 a.3.1)),
+      a.4,
+    ))
     (λ ss more ws a.
     let k = open_front room r more ws a.0 a.1 a.3.0 is_suc (ap (λ u. u ∷ ws) (sym same) ∙ a.2) a.3.1 in
     (k.0, a.1, k.1, (a.3.0, k.2), a.4))

@@ -1,9 +1,9 @@
 -- Where a symbol is not there, and what is wrong.
-use Rattle.std.proofs.Common.{◌≡◌, ℕ, ◌+◌, List, [], ◌∷◌, ◌++◌, refl, sym, ap, subst, ◌∙◌, ◌⊎◌, inl, inr}
+use Rattle.std.proofs.Common.{◌≡◌, ℕ, List, [], ◌∷◌, ◌++◌, refl, sym, subst, ◌⊎◌, inl, inr}
 use Rattle.omos_model.specs.declared.refusal.BpFault.TheVariants.{Shape}
-use Rattle.bp_tree.specs.Tokens.{Token, Open, Close, Word, Placed}
+use Rattle.bp_tree.specs.Tokens.{Token, Open, Word, Placed}
 use Rattle.bp_tree.specs.TextFaults.{Begins, CallsForNumber, IsNumberWord}
-use Rattle.bp_tree.specs.Symbols.{Sym, IsSym, AreSyms, Completable, Fails, WhyStops, Leads}
+use Rattle.bp_tree.specs.Symbols.{Sym, IsSym, AreSyms, Completable, Fails, WhyStops}
 use Rattle.bp_tree.specs.declared.stop.Stop.{Stop}
 use Rattle.bp_tree.specs.declared.stop.Stop.TheVariants.{Early, At}
 use Rattle.bp_tree.proofs.Moves.{shape_fault, step}
@@ -74,12 +74,12 @@ fails_shape s ts t after sample none e stops deep calls = record {
   why = λ ss c.
       let P : List Placed → Type 0 = λ us. WhyStops (AreSyms (s ∷ ss)) us (At (Shape t.place)) in
       subst P (sym e) (shape_fault (AreSyms (s ∷ ss)) t after (completes s ss sample c 0)
-          (λ b. let w = head_of s ss t.token 0 none b in stops w.0 w.1)
-          (λ d.
-              let Q : Token → Type 0 = λ u. Begins (AreSyms (s ∷ ss)) d.1.0 (u ∷ []) in
-              let w = head_of s ss Open d.1.0 none (subst Q d.0 d.1.1) in
-              deep d.0 d.1.0 w.0 w.1)
-          (λ word is calling. uncalled s ss none calls c calling));
+      (λ b. let w = head_of s ss t.token 0 none b in stops w.0 w.1)
+      (λ d.
+      let Q : Token → Type 0 = λ u. Begins (AreSyms (s ∷ ss)) d.1.0 (u ∷ []) in
+      let w = head_of s ss Open d.1.0 none (subst Q d.0 d.1.1) in
+      deep d.0 d.1.0 w.0 w.1)
+      (λ word is calling. uncalled s ss none calls c calling));
 }
 
 -- one token was taken
@@ -93,4 +93,4 @@ pub leads_step : (now now' : List Sym) (t : Placed) (ts after : List Placed) →
 leads_step now now' t ts after e there back ss stop h =
     let P : List Placed → Type 0 = λ us. WhyStops (AreSyms (now ++ ss)) us stop in
     subst P (sym e) (step (AreSyms (now' ++ ss)) (AreSyms (now ++ ss)) t after stop (there ss)
-        (back ss) h)
+    (back ss) h)

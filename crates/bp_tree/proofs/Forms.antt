@@ -1,5 +1,5 @@
 -- What a form's parts make when they were all read.
-use Rattle.std.proofs.Common.{◌≡◌, ◌≤◌, ◌<◌, ℕ, ◌+◌, List, [], ◌∷◌, ◌++◌, refl, sym, ap, subst, ◌∙◌, codes, arith, append_assoc, length, take, drop, inl, inr}
+use Rattle.std.proofs.Common.{◌≡◌, ◌≤◌, ◌<◌, ℕ, ◌+◌, List, [], ◌∷◌, ◌++◌, refl, sym, ap, subst, ◌∙◌, codes, arith, length, take, drop, inl, inr}
 use Rattle.std.proofs.lemmas.List.{length-append, take-append-drop}
 use Rattle.omos_base.specs.Paths.{IsPath, BeginsPath, HasPathFault}
 use Rattle.omos_base.specs.declared.path_name.PathFault.{PathFault}
@@ -8,8 +8,8 @@ use Rattle.omos_model.specs.declared.expr.Expr.{Expr}
 use Rattle.omos_model.specs.declared.expr.Expr.TheVariants as expr
 use Rattle.bp_tree.specs.Tokens.{Token, Open, Close, Word, Placed}
 use Rattle.bp_tree.specs.Texts.{words_of}
-use Rattle.bp_tree.specs.Grammar.{IsExpr, AreExprs, IsOpened, Merges, Overrides, Applies, op_words, op_nesting, IsOp, applied}
-use Rattle.bp_tree.specs.Symbols.{Sym, It, AnExpr, Exprs, AreRead, AreOperands, IsOperator, arguments, operator_keyword, kind_nesting, op_of}
+use Rattle.bp_tree.specs.Grammar.{IsExpr, AreExprs, IsOpened, Merges, Overrides, Applies, op_words, applied}
+use Rattle.bp_tree.specs.Symbols.{It, AnExpr, Exprs, AreRead, AreOperands, IsOperator, arguments, operator_keyword, kind_nesting, op_of}
 use Rattle.bp_tree.specs.declared.form.Applied.{Applied}
 use Rattle.bp_tree.specs.declared.operator.Operator.{Operator}
 use Rattle.bp_tree.proofs.Expressions.{expr_nil}
@@ -34,7 +34,7 @@ pub applied_done : (room : ℕ) (k : Applied) (op : Operator) (x e : Expr) (ts a
     → AreRead (AnExpr room ∷ []) (Said room x) a b → AreRead (It Close ∷ []) (λ ws. ws ≡ Close ∷ []) b end
     → e ≡ applied (op_of op) x
     → AreRead (arguments k ++ AnExpr room ∷ It Close ∷ [])
-        (λ ws. IsOpened room (IsExpr room) (Open ∷ Word (operator_keyword k) ∷ ws) e) ts end
+    (λ ws. IsOpened room (IsExpr room) (Open ∷ Word (operator_keyword k) ∷ ws) e) ts end
 applied_done room k op x e ts a b end fits r q s is =
     then_read (arguments k) (AnExpr room ∷ It Close ∷ []) (IsOperator k op) (Closed room x)
     (λ ws. IsOpened room (IsExpr room) (Open ∷ Word (operator_keyword k) ∷ ws) e) ts a end r (closed room x a b end q s)
@@ -47,7 +47,7 @@ pub overridden_done : (room : ℕ) (x y x' y' : Expr) (ts a b end : List Placed)
     → AreRead (AnExpr room ∷ []) (Said room x) ts a → AreRead (AnExpr room ∷ []) (Said room y) a b
     → AreRead (It Close ∷ []) (λ ws. ws ≡ Close ∷ []) b end → x' ≡ x → y' ≡ y
     → AreRead (AnExpr room ∷ AnExpr room ∷ It Close ∷ [])
-        (λ ws. IsOpened room (IsExpr room) (Open ∷ Word (codes "override") ∷ ws) (expr.Override x' y')) ts end
+    (λ ws. IsOpened room (IsExpr room) (Open ∷ Word (codes "override") ∷ ws) (expr.Override x' y')) ts end
 overridden_done room x y x' y' ts a b end r q s sx sy =
     then_read (AnExpr room ∷ []) (AnExpr room ∷ It Close ∷ []) (Said room x) (Closed room y)
     (λ ws. IsOpened room (IsExpr room) (Open ∷ Word (codes "override") ∷ ws) (expr.Override x' y')) ts a end r (closed room y a b end q s)
@@ -65,7 +65,7 @@ pub merged_done : (room : ℕ) (x y : Expr) (given all : List Expr) (ts a b end 
     → AreRead (AnExpr room ∷ []) (Said room x) ts a → AreRead (AnExpr room ∷ []) (Said room y) a b
     → AreRead (Exprs room ∷ []) (AreOperands room given all) b end → given ≡ x ∷ y ∷ []
     → AreRead (AnExpr room ∷ AnExpr room ∷ Exprs room ∷ [])
-        (λ ws. IsOpened room (IsExpr room) (Open ∷ Word (codes "merge") ∷ ws) (expr.Merge all)) ts end
+    (λ ws. IsOpened room (IsExpr room) (Open ∷ Word (codes "merge") ∷ ws) (expr.Merge all)) ts end
 merged_done room x y given all ts a b end r q s is =
     then_read (AnExpr room ∷ []) (AnExpr room ∷ Exprs room ∷ []) (Said room x) (Several room given all y)
     (λ ws. IsOpened room (IsExpr room) (Open ∷ Word (codes "merge") ∷ ws) (expr.Merge all)) ts a end r

@@ -1,5 +1,5 @@
 -- The start and the range of an image, which may be left out.
-use Rattle.std.proofs.Common.{◌≡◌, ◌≤◌, ◌<◌, ℕ, ◌+◌, List, [], ◌∷◌, ◌++◌, refl, sym, ap, subst, ◌∙◌, ◌⊎◌, inl, inr, codes, arith, cond}
+use Rattle.std.proofs.Common.{◌≡◌, ℕ, ◌+◌, List, [], ◌∷◌, ◌++◌, refl, sym, ap, subst, ◌∙◌, ◌⊎◌, inl, inr, codes, arith, cond}
 use Rattle.omos_base.specs.SymNames.{IsSymName}
 use Rattle.omos_model.specs.Names.{same_name}
 use Rattle.omos_model.specs.declared.entry.Start.{Start}
@@ -7,21 +7,20 @@ use Rattle.omos_model.specs.declared.entry.Start.TheVariants.{Named, NoEntry}
 use Rattle.omos_model.specs.declared.expr.Expr.{Expr}
 use Rattle.bp_tree.specs.Tokens.{Token, Open, Close, Word, Placed}
 use Rattle.bp_tree.specs.Texts.{words_of}
-use Rattle.bp_tree.specs.TextFaults.{Language, Begins, IsNumberWord}
+use Rattle.bp_tree.specs.TextFaults.{Language, Begins}
 use Rattle.bp_tree.specs.Grammar.{IsExpr, IsOpened, Merges, Overrides, Applies, IsStart, IsRange}
-use Rattle.bp_tree.specs.Symbols.{Sym, It, AName, AnExpr, AStart, ARange, Low, IsSym, AreSyms, keyword, Completable, Fails, AreRead, WhyStops}
+use Rattle.bp_tree.specs.Symbols.{Sym, It, AName, AStart, ARange, Low, AreSyms, keyword, Completable, Fails, AreRead, WhyStops}
 use Rattle.bp_tree.specs.Header.{IsOpening, IsPart, body_syms, range_syms, AreBounds}
 use Rattle.bp_tree.specs.declared.form.Form.{Form}
 use Rattle.bp_tree.specs.declared.form.Form.TheVariants as form
 use Rattle.bp_tree.specs.declared.form.Applied.TheVariants as kind
 use Rattle.bp_tree.specs.declared.stop.Stop.{Stop}
 use Rattle.bp_tree.proofs.Expressions.{opened_head}
-use Rattle.bp_tree.proofs.Failing.{completes, begins_with}
 use Rattle.bp_tree.proofs.Moves.{step}
 use Rattle.bp_tree.proofs.Opened.{op_args}
 use Rattle.bp_tree.proofs.Optional.{DiffersAtKeys, unless_key}
 use Rattle.bp_tree.proofs.Samples.{expr_cases, opened_is_expr, opened_a, freeze_a, no_number_freeze}
-use Rattle.bp_tree.proofs.Solids.{solid_end, solid_it}
+use Rattle.bp_tree.proofs.Solids.{solid_end}
 
 -- ---- two tokens taken
 
@@ -170,9 +169,13 @@ range_lead : (ts after : List Placed) → IsOpening ts (codes "range") after →
 range_lead ts after o stop h =
     opened_lead (AreSyms (Low ∷ body_syms)) (AreSyms range_syms) (codes "range") ts after stop o
     (λ more ws a.
-    let l = a.3 in
-    (Open ∷ Word (codes "range") ∷ a.0, a.1, ap (λ us. Open ∷ Word (codes "range") ∷ us) a.2,
-    (l.2, l.3, inr (l.0, l.1, ap (λ us. Open ∷ Word (codes "range") ∷ us) l.4, l.5, l.6, l.7)), a.4))
+    let l = a.3 in (
+      Open ∷ Word (codes "range") ∷ a.0,
+      a.1,
+      ap (λ us. Open ∷ Word (codes "range") ∷ us) a.2,
+      (l.2, l.3, inr (l.0, l.1, ap (λ us. Open ∷ Word (codes "range") ∷ us) l.4, l.5, l.6, l.7)),
+      a.4,
+    ))
     (λ more ws a.
     elim a.3.2 [
       | inl n ↦
@@ -191,9 +194,11 @@ range_fails ts after stop o f = range_lead ts after o stop (f.why body_syms (sol
 
 opening_words : (ts after end front : List Placed) (k : List ℕ) → IsOpening ts k after → after ≡ front ++ end
     → (whole : List Placed) × (ts ≡ whole ++ end) × (words_of whole ≡ Open ∷ Word k ∷ words_of front)
-opening_words ts after end front k o e =
-    (o.0 ∷ o.1 ∷ front, o.2 ∙ ap (λ us. o.0 ∷ o.1 ∷ us) e,
-    ap (λ u. u ∷ o.1.token ∷ words_of front) o.3 ∙ ap (λ u. Open ∷ u ∷ words_of front) o.4)
+opening_words ts after end front k o e = (
+  o.0 ∷ o.1 ∷ front,
+  o.2 ∙ ap (λ us. o.0 ∷ o.1 ∷ us) e,
+  ap (λ u. u ∷ o.1.token ∷ words_of front) o.3 ∙ ap (λ u. Open ∷ u ∷ words_of front) o.4,
+)
 
 pub range_read : (ts after end : List Placed) (lo hi : ℕ) → IsOpening ts (codes "range") after
     → AreRead (Low ∷ []) (AreBounds lo hi) after end
@@ -272,9 +277,13 @@ entry_lead ts after o stop h =
     opened_lead (AreSyms (AName ∷ It Close ∷ range_syms)) (AreSyms start_syms) (codes "entry") ts after stop o
     (λ more ws a.
     let b = a.4 in
-    let k : ws ≡ Word a.3.0 ∷ Close ∷ b.1 = a.2 ∙ ap (λ us. us ++ a.1) a.3.1 ∙ ap (λ us. Word a.3.0 ∷ us) (b.2 ∙ ap (λ us. us ++ b.1) b.3) in
-    (Open ∷ Word (codes "entry") ∷ Word a.3.0 ∷ Close ∷ [], b.1, ap (λ us. Open ∷ Word (codes "entry") ∷ us) k,
-    (Named a.3.0, inr (refl, a.3.2)), b.4))
+    let k : ws ≡ Word a.3.0 ∷ Close ∷ b.1 = a.2 ∙ ap (λ us. us ++ a.1) a.3.1 ∙ ap (λ us. Word a.3.0 ∷ us) (b.2 ∙ ap (λ us. us ++ b.1) b.3) in (
+      Open ∷ Word (codes "entry") ∷ Word a.3.0 ∷ Close ∷ [],
+      b.1,
+      ap (λ us. Open ∷ Word (codes "entry") ∷ us) k,
+      (Named a.3.0, inr (refl, a.3.2)),
+      b.4,
+    ))
     (λ more ws a. entry_front more ws a.0 a.1 a.3.0 a.2 a.3.1 a.4) h
 
 pub entry_fails : (ts after : List Placed) (stop : Stop) → IsOpening ts (codes "entry") after → Fails (AName ∷ It Close ∷ []) after stop
@@ -309,9 +318,13 @@ none_lead : (ts after : List Placed) → IsOpening ts (codes "no_entry") after �
     → WhyStops (AreSyms (It Close ∷ range_syms)) after stop → WhyStops (AreSyms start_syms) ts stop
 none_lead ts after o stop h =
     opened_lead (AreSyms (It Close ∷ range_syms)) (AreSyms start_syms) (codes "no_entry") ts after stop o
-    (λ more ws a.
-    (Open ∷ Word (codes "no_entry") ∷ Close ∷ [], a.1,
-    ap (λ us. Open ∷ Word (codes "no_entry") ∷ us) (a.2 ∙ ap (λ us. us ++ a.1) a.3), (NoEntry, refl), a.4))
+    (λ more ws a. (
+      Open ∷ Word (codes "no_entry") ∷ Close ∷ [],
+      a.1,
+      ap (λ us. Open ∷ Word (codes "no_entry") ∷ us) (a.2 ∙ ap (λ us. us ++ a.1) a.3),
+      (NoEntry, refl),
+      a.4,
+    ))
     (λ more ws a. none_front more ws a.0 a.1 a.3.0 a.2 a.3.1 a.4) h
 
 pub none_fails : (ts after : List Placed) (stop : Stop) → IsOpening ts (codes "no_entry") after → Fails (It Close ∷ []) after stop

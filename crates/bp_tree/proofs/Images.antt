@@ -1,8 +1,8 @@
 -- Whole images, and whole texts.
-use Rattle.std.proofs.Common.{◌≡◌, ◌≤◌, ◌<◌, ℕ, ◌+◌, Bool, true, false, ◌&&◌, nat_le, List, [], ◌∷◌, ◌++◌, All, refl, sym, ap, subst, ◌∙◌, ◌⊎◌, inl, inr, codes, arith, append_assoc, length, IsTrue}
-use Rattle.std.proofs.lemmas.List.{append-nil, length-append}
+use Rattle.std.proofs.Common.{◌≡◌, ◌≤◌, ℕ, ◌+◌, Bool, true, ◌&&◌, nat_le, List, [], ◌∷◌, ◌++◌, All, refl, sym, ap, subst, ◌∙◌, inl, inr, codes, arith, append_assoc, length}
+use Rattle.std.proofs.lemmas.List.{append-nil}
 use Rattle.std.proofs.lemmas.List.Elements.{All-nil, All-cons, All-append}
-use Rattle.omos_model.specs.ImageParts.{ImageParts, image_of, is_range, is_formed, nesting, IsImage}
+use Rattle.omos_model.specs.ImageParts.{image_of, is_range, is_formed, nesting, IsImage}
 use Rattle.omos_model.specs.declared.entry.Start.{Start}
 use Rattle.omos_model.specs.declared.expr.Expr.{Expr}
 use Rattle.omos_model.specs.declared.refusal.BpFault.{BpFault}
@@ -11,15 +11,15 @@ use Rattle.bp_tree.specs.Tokens.{Token, Open, Close, Word, Barred, Placed, token
 use Rattle.bp_tree.specs.Texts.{words_of}
 use Rattle.bp_tree.specs.TextFaults.{images, IsAllowed, IsBarredAt, HasTokenFault, IsTextFault}
 use Rattle.bp_tree.specs.Grammar.{IsExpr, IsImageOf, IsStart, IsRange}
-use Rattle.bp_tree.specs.Symbols.{Sym, It, AnExpr, AStart, ARange, AreSyms, Completable, Fails, AreRead, WhyStops}
-use Rattle.bp_tree.specs.Header.{IsPart, IsHead, HasHead, body_syms, range_syms, image_syms}
+use Rattle.bp_tree.specs.Symbols.{It, AnExpr, AStart, ARange, AreSyms, Completable, Fails, AreRead, WhyStops}
+use Rattle.bp_tree.specs.Header.{IsPart, HasHead, body_syms, range_syms, image_syms}
 use Rattle.bp_tree.specs.declared.stop.Stop.{Stop}
-use Rattle.bp_tree.specs.declared.stop.Stop.TheVariants.{Early, At}
+use Rattle.bp_tree.specs.declared.stop.Stop.TheVariants.{At}
 use Rattle.bp_tree.proofs.Headers.{range_open, no_start}
 use Rattle.bp_tree.proofs.Lawful.{expr_fits}
 use Rattle.bp_tree.proofs.Moves.{same, shape_fault}
 use Rattle.bp_tree.proofs.NameLists.{words-append}
-use Rattle.bp_tree.proofs.Solids.{solid_it, solid_end}
+use Rattle.bp_tree.proofs.Solids.{solid_it}
 
 -- ---- images as symbols
 
@@ -37,19 +37,43 @@ to_image more ws h =
     let e4 : begun.1 ≡ ranged.0 ++ (body.0 ++ Close ∷ []) = ranged.2 ∙ ap (λ us. ranged.0 ++ us) e5 in
     let e3 : named.1 ≡ begun.0 ++ (ranged.0 ++ (body.0 ++ Close ∷ [])) = begun.2 ∙ ap (λ us. begun.0 ++ us) e4 in (
       image_of begun.3.0 ranged.3.0 ranged.3.1 body.3.0,
-      (begun.0, ranged.0, body.0,
-      e1 ∙ ap (λ us. Open ∷ us) e2 ∙ ap (λ us. Open ∷ Word (codes "image") ∷ us) e3,
-      begun.3.1, ranged.3.2, body.3.1),
+      (
+        begun.0,
+        ranged.0,
+        body.0,
+        e1 ∙ ap (λ us. Open ∷ us) e2 ∙ ap (λ us. Open ∷ Word (codes "image") ∷ us) e3,
+        begun.3.1,
+        ranged.3.2,
+        body.3.1,
+      ),
     )
 
 from_image : (more : ℕ) (ws : List Token) → images more ws → AreSyms image_syms more ws
 from_image more ws h =
     let i = h.1 in (
-      Open ∷ [], Word (codes "image") ∷ (i.0 ++ (i.1 ++ (i.2 ++ Close ∷ []))), i.3, refl,
-      (Word (codes "image") ∷ [], i.0 ++ (i.1 ++ (i.2 ++ Close ∷ [])), refl, refl,
-      (i.0, i.1 ++ (i.2 ++ Close ∷ []), refl, (h.0.start, i.4),
-      (i.1, i.2 ++ Close ∷ [], refl, (h.0.lo, h.0.hi, i.5),
-      (i.2, Close ∷ [], refl, (h.0.body, i.6), (Close ∷ [], [], refl, refl, refl))))),
+      Open ∷ [],
+      Word (codes "image") ∷ (i.0 ++ (i.1 ++ (i.2 ++ Close ∷ []))),
+      i.3,
+      refl,
+      (
+        Word (codes "image") ∷ [],
+        i.0 ++ (i.1 ++ (i.2 ++ Close ∷ [])),
+        refl,
+        refl,
+        (
+          i.0,
+          i.1 ++ (i.2 ++ Close ∷ []),
+          refl,
+          (h.0.start, i.4),
+          (
+            i.1,
+            i.2 ++ Close ∷ [],
+            refl,
+            (h.0.lo, h.0.hi, i.5),
+            (i.2, Close ∷ [], refl, (h.0.body, i.6), (Close ∷ [], [], refl, refl, refl)),
+          ),
+        ),
+      ),
     )
 
 pub as_images : (ts : List Placed) (stop : Stop) → WhyStops (AreSyms image_syms) ts stop → WhyStops images ts stop
@@ -185,9 +209,11 @@ abbrev pub Passed : List Placed → List Placed → Type 0
 Passed ts rest = (front : List Placed) × (ts ≡ front ++ rest) × All IsAllowed front
 
 pub passed_one : (ts rest after : List Placed) (t : Placed) → Passed ts rest → rest ≡ t ∷ after → IsAllowed t → Passed ts after
-passed_one ts rest after t p e is =
-    (p.0 ++ t ∷ [], p.1 ∙ ap (λ us. p.0 ++ us) e ∙ sym (append_assoc p.0 (t ∷ []) after),
-    All-append IsAllowed p.0 (t ∷ []) p.2 (All-cons IsAllowed t [] is (All-nil IsAllowed)))
+passed_one ts rest after t p e is = (
+  p.0 ++ t ∷ [],
+  p.1 ∙ ap (λ us. p.0 ++ us) e ∙ sym (append_assoc p.0 (t ∷ []) after),
+  All-append IsAllowed p.0 (t ∷ []) p.2 (All-cons IsAllowed t [] is (All-nil IsAllowed)),
+)
 
 pub passed_all : (ts rest : List Placed) → Passed ts rest → rest ≡ [] → All IsAllowed ts
 passed_all ts rest p e =

@@ -1,15 +1,14 @@
 -- What a text says is a blueprint: its merges have two operands, and it nests as deep as it may.
-use Rattle.std.proofs.Common.{◌≡◌, ◌≤◌, ℕ, zero, suc, ◌+◌, Bool, true, false, ◌&&◌, nat_le, max, fold, map, List, [], ◌∷◌, ◌++◌, refl, sym, ap, subst, ◌∙◌, ◌⊎◌, inl, inr, arith, length, IsTrue}
+use Rattle.std.proofs.Common.{◌≡◌, ◌≤◌, ℕ, zero, suc, ◌+◌, Bool, true, ◌&&◌, nat_le, max, fold, map, List, [], ◌∷◌, refl, sym, ap, subst, ◌∙◌, inl, inr, arith, length}
 use Rattle.std.specs.List.{list_all}
 use Rattle.omos_model.specs.Op.{Op, Rename, Restrict, Freeze, Hide, Show, CopyAs}
 use Rattle.omos_model.specs.ImageParts.{formed_layer, is_formed, nesting_layer, nesting}
-use Rattle.omos_model.specs.declared.expr.Expr.{Expr, fold-Expr}
+use Rattle.omos_model.specs.declared.expr.Expr.{Expr}
 use Rattle.omos_model.specs.declared.expr.Expr.TheOpen.{Expr-F}
 use Rattle.omos_model.specs.declared.expr.Expr.TheVariants as expr
 use Rattle.omos_model.specs.declared.expr.Expr.TheFolds.{fold-roll-Expr}
-use Rattle.bp_tree.specs.Tokens.{Token, Open, Close, Word}
-use Rattle.bp_tree.specs.Grammar.{IsExpr, IsPathOf, IsOpened, Merges, Overrides, Applies, AreExprs, IsOp, op_nesting, applied}
-use Rattle.bp_tree.proofs.Samples.{expr_cases}
+use Rattle.bp_tree.specs.Tokens.{Token}
+use Rattle.bp_tree.specs.Grammar.{IsExpr, IsPathOf, IsOpened, Merges, Overrides, Applies, AreExprs, op_nesting, applied}
 
 abbrev pub IsFit : ℕ → Expr → Type 0
 IsFit n e = (is_formed e ≡ true) × (nesting e ≤ n)

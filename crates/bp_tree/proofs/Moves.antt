@@ -2,9 +2,9 @@
 use Rattle.std.proofs.Common.{◌≡◌, ℕ, List, [], ◌∷◌, ◌++◌, refl, ap}
 use Rattle.omos_model.specs.declared.refusal.BpFault.{BpFault}
 use Rattle.omos_model.specs.declared.refusal.BpFault.TheVariants.{Long, Byte, Shape, Deep, Number, Range}
-use Rattle.bp_tree.specs.Tokens.{Token, Open, Word, Placed}
+use Rattle.bp_tree.specs.Tokens.{Token, Word, Placed}
 use Rattle.bp_tree.specs.Texts.{words_of}
-use Rattle.bp_tree.specs.TextFaults.{Language, Begins, StopsAt, CallsForNumber, IsTooDeep, IsTokenFault, IsNoNumber, IsOffRange, IsNumberWord}
+use Rattle.bp_tree.specs.TextFaults.{Language, Begins, CallsForNumber, IsTooDeep, IsTokenFault}
 use Rattle.bp_tree.specs.Symbols.{WhyStops}
 use Rattle.bp_tree.specs.declared.stop.Stop.{Stop}
 use Rattle.bp_tree.specs.declared.stop.Stop.TheVariants.{Early, At}

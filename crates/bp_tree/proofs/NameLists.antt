@@ -1,16 +1,16 @@
 -- Names up to a parenthesis.
-use Rattle.std.proofs.Common.{◌≡◌, ℕ, ◌+◌, ◌<◌, ◌≤◌, List, [], ◌∷◌, ◌++◌, refl, sym, ap, subst, ◌∙◌, ◌⊎◌, inl, inr, All, map, append_assoc, arith}
-use Rattle.std.proofs.lemmas.List.{map-append, append-nil}
+use Rattle.std.proofs.Common.{◌≡◌, ℕ, List, [], ◌∷◌, ◌++◌, refl, sym, ap, subst, ◌∙◌, inl, All, map, append_assoc, arith}
+use Rattle.std.proofs.lemmas.List.{map-append}
 use Rattle.std.proofs.lemmas.List.Elements.{All-nil, All-cons, All-tail, All-append}
 use Rattle.omos_base.specs.SymNames.{IsSymName}
 use Rattle.omos_model.specs.declared.refusal.BpFault.TheVariants.{Shape}
 use Rattle.bp_tree.specs.Tokens.{Token, Open, Close, Word, Placed}
 use Rattle.bp_tree.specs.Texts.{words_of}
-use Rattle.bp_tree.specs.Symbols.{Sym, Names, IsSym, AreSyms, Fails, AreRead, HasGrown, WhyStops}
+use Rattle.bp_tree.specs.Symbols.{Sym, Names, AreSyms, Fails, AreRead, HasGrown, WhyStops}
 use Rattle.bp_tree.specs.declared.stop.Stop.{Stop}
 use Rattle.bp_tree.specs.declared.stop.Stop.TheVariants.{Early, At}
 use Rattle.bp_tree.proofs.Samples.{name_a, no_number_a}
-use Rattle.bp_tree.proofs.Failing.{Sample, IsNeverEmpty, IsUncalled, fails_early, fails_shape, leads_step}
+use Rattle.bp_tree.proofs.Failing.{Sample, IsNeverEmpty, fails_early, fails_shape, leads_step}
 
 -- ---- a list that goes on
 
@@ -93,9 +93,13 @@ pub names_lead : (n : List ℕ) (ts : List Placed) (t : Placed) (after : List Pl
     → WhyStops (AreSyms (Names ∷ ss)) after stop → WhyStops (AreSyms (Names ∷ ss)) ts stop
 names_lead n ts t after e same is = leads_step (Names ∷ []) (Names ∷ []) t ts after e
     (λ ss more ws a.
-    let front = Word n ∷ a.0 in
-    (front, a.1, ap (λ u. u ∷ ws) same ∙ ap (λ us. Word n ∷ us) a.2,
-    (n ∷ a.3.0, ap (λ us. Word n ∷ us) a.3.1, All-cons IsSymName n a.3.0 is a.3.2), a.4))
+    let front = Word n ∷ a.0 in (
+      front,
+      a.1,
+      ap (λ u. u ∷ ws) same ∙ ap (λ us. Word n ∷ us) a.2,
+      (n ∷ a.3.0, ap (λ us. Word n ∷ us) a.3.1, All-cons IsSymName n a.3.0 is a.3.2),
+      a.4,
+    ))
     (λ ss more ws a.
     let h = tail_names n ws a.0 a.1 a.3.0 (ap (λ u. u ∷ ws) (sym same) ∙ a.2) a.3.1 a.3.2 in
     (map Word h.0 ++ Close ∷ [], a.1, h.1, (h.0, refl, h.2), a.4))

@@ -1,15 +1,12 @@
 -- Expressions, and what stands behind their first parenthesis.
-use Rattle.std.proofs.Common.{◌≡◌, ◌≤◌, ◌<◌, ℕ, zero, suc, ◌+◌, List, [], ◌∷◌, ◌++◌, refl, sym, ap, subst, ◌∙◌, ◌⊎◌, inl, inr, codes, All, map, length, append_assoc, arith}
+use Rattle.std.proofs.Common.{◌≡◌, ◌≤◌, ℕ, ◌+◌, List, [], ◌∷◌, ◌++◌, refl, sym, ap, subst, ◌∙◌, codes, map, length, append_assoc, arith}
 use Rattle.std.proofs.lemmas.List.{append-nil}
-use Rattle.omos_base.specs.SymNames.{IsSymName}
-use Rattle.omos_base.specs.Paths.{IsPath}
 use Rattle.omos_model.specs.Op.{Op, Rename, Restrict, Freeze, Hide, Show, CopyAs}
 use Rattle.omos_model.specs.declared.expr.Expr.{Expr}
 use Rattle.omos_model.specs.declared.expr.Expr.TheVariants as expr
-use Rattle.omos_model.specs.declared.refusal.BpFault.TheVariants.{Shape, Deep}
-use Rattle.bp_tree.specs.Tokens.{Token, Open, Close, Word, Placed}
-use Rattle.bp_tree.specs.Grammar.{IsExpr, IsPathOf, IsOpened, Merges, Overrides, Applies, AreExprs, op_words, IsOp, op_nesting, applied}
-use Rattle.bp_tree.specs.Symbols.{Sym, It, AName, Names, AnExpr, Inside, Exprs, IsSym, AreSyms, behind, keyword, operator_keyword, arguments, form_nesting, kind_nesting, Fails, AreRead, WhyStops, Completable}
+use Rattle.bp_tree.specs.Tokens.{Token, Open, Close, Word}
+use Rattle.bp_tree.specs.Grammar.{IsExpr, IsOpened, Merges, Overrides, Applies, AreExprs, op_words, IsOp, op_nesting, applied}
+use Rattle.bp_tree.specs.Symbols.{Sym, It, AnExpr, AreSyms, behind, keyword, operator_keyword, arguments, form_nesting, kind_nesting}
 use Rattle.bp_tree.specs.declared.form.Form.{Form}
 use Rattle.bp_tree.specs.declared.form.Form.TheVariants as form
 use Rattle.bp_tree.specs.declared.form.Applied.{Applied}
@@ -94,22 +91,39 @@ args_op kind.CopyAs more ws h = (
 pub op_args : (op : Op) (more : ℕ) → IsOp op
     → (k : Applied) × (ws : List Token) × (op_words op ≡ Word (operator_keyword k) ∷ ws)
     × (op_nesting op ≡ kind_nesting k) × AreSyms (arguments k) more ws
-op_args (Rename a b) more is =
-    (kind.Rename, Word a ∷ Word b ∷ [], refl, refl,
-    (Word a ∷ [], Word b ∷ [], refl, (a, refl, is.0), (Word b ∷ [], [], refl, (b, refl, is.1), refl)))
+op_args (Rename a b) more is = (
+  kind.Rename,
+  Word a ∷ Word b ∷ [],
+  refl,
+  refl,
+  (Word a ∷ [], Word b ∷ [], refl, (a, refl, is.0), (Word b ∷ [], [], refl, (b, refl, is.1), refl)),
+)
 op_args (Restrict a) more is =
     (kind.Restrict, Word a ∷ [], refl, refl, (Word a ∷ [], [], refl, (a, refl, is), refl))
 op_args (Freeze a) more is =
     (kind.Freeze, Word a ∷ [], refl, refl, (Word a ∷ [], [], refl, (a, refl, is), refl))
 op_args (Hide a) more is =
     (kind.Hide, Word a ∷ [], refl, refl, (Word a ∷ [], [], refl, (a, refl, is), refl))
-op_args (Show names) more is =
-    (kind.Show, Open ∷ (map Word names ++ Close ∷ []), refl, refl,
-    (Open ∷ [], map Word names ++ Close ∷ [], refl, refl,
-    (map Word names ++ Close ∷ [], [], sym (append-nil (map Word names ++ Close ∷ [])), (names, refl, is), refl)))
-op_args (CopyAs a b) more is =
-    (kind.CopyAs, Word a ∷ Word b ∷ [], refl, refl,
-    (Word a ∷ [], Word b ∷ [], refl, (a, refl, is.0), (Word b ∷ [], [], refl, (b, refl, is.1), refl)))
+op_args (Show names) more is = (
+  kind.Show,
+  Open ∷ (map Word names ++ Close ∷ []),
+  refl,
+  refl,
+  (
+    Open ∷ [],
+    map Word names ++ Close ∷ [],
+    refl,
+    refl,
+    (map Word names ++ Close ∷ [], [], sym (append-nil (map Word names ++ Close ∷ [])), (names, refl, is), refl),
+  ),
+)
+op_args (CopyAs a b) more is = (
+  kind.CopyAs,
+  Word a ∷ Word b ∷ [],
+  refl,
+  refl,
+  (Word a ∷ [], Word b ∷ [], refl, (a, refl, is.0), (Word b ∷ [], [], refl, (b, refl, is.1), refl)),
+)
 
 -- a merge's tokens, in both groupings
 pub regrouped : (f g inner : List Token) → f ++ (g ++ (inner ++ Close ∷ [])) ≡ (f ++ (g ++ inner)) ++ Close ∷ []
@@ -153,9 +167,17 @@ two_of room more inner [] two are = absurd (omega arith)
 two_of room more inner (x ∷ []) two are = absurd (omega arith)
 two_of room more inner (x ∷ y ∷ xs) two are =
     let b = are.4 in (
-      are.0, are.1 ++ Close ∷ [], ap (λ us. us ++ Close ∷ []) are.2 ∙ append_assoc are.0 are.1 (Close ∷ []), (x, are.3),
-      (b.0, b.1 ++ Close ∷ [], ap (λ us. us ++ Close ∷ []) b.2 ∙ append_assoc b.0 b.1 (Close ∷ []), (y, b.3),
-      (b.1 ++ Close ∷ [], [], sym (append-nil (b.1 ++ Close ∷ [])), (b.1, xs, refl, b.4), refl)),
+      are.0,
+      are.1 ++ Close ∷ [],
+      ap (λ us. us ++ Close ∷ []) are.2 ∙ append_assoc are.0 are.1 (Close ∷ []),
+      (x, are.3),
+      (
+        b.0,
+        b.1 ++ Close ∷ [],
+        ap (λ us. us ++ Close ∷ []) b.2 ∙ append_assoc b.0 b.1 (Close ∷ []),
+        (y, b.3),
+        (b.1 ++ Close ∷ [], [], sym (append-nil (b.1 ++ Close ∷ [])), (b.1, xs, refl, b.4), refl),
+      ),
     )
 
 pub opened_form : (room more : ℕ) (ws : List Token) (e : Expr)
@@ -166,12 +188,20 @@ opened_form room more ws e (Merges inner xs eq is two are) =
     let k : ws ≡ Word (codes "merge") ∷ (inner ++ Close ∷ []) = cc in
     (form.Merge, inner ++ Close ∷ [], k, omega arith, two_of room more inner xs two are)
 opened_form room more ws e (Overrides l r x y eq is px py) =
-    let k : ws ≡ Word (codes "override") ∷ (l ++ (r ++ Close ∷ [])) = cc in
-    (form.Override, l ++ (r ++ Close ∷ []), k, omega arith,
-    (l, r ++ Close ∷ [], refl, (x, px), operand_is room more r y py))
+    let k : ws ≡ Word (codes "override") ∷ (l ++ (r ++ Close ∷ [])) = cc in (
+      form.Override,
+      l ++ (r ++ Close ∷ []),
+      k,
+      omega arith,
+      (l, r ++ Close ∷ [], refl, (x, px), operand_is room more r y py),
+    )
 opened_form room more ws e (Applies op inner x eq is isop nest px) =
     let k : ws ≡ op_words op ++ (inner ++ Close ∷ []) = cc in
     let a = op_args op more isop in
-    let fits : kind_nesting a.0 ≤ room + more = omega (arith, a.3, nest) in
-    (form.Apply a.0, a.1 ++ (inner ++ Close ∷ []), k ∙ ap (λ us. us ++ (inner ++ Close ∷ [])) a.2, fits,
-    both (arguments a.0) (AnExpr room ∷ It Close ∷ []) more a.1 (inner ++ Close ∷ []) a.4 (operand_is room more inner x px))
+    let fits : kind_nesting a.0 ≤ room + more = omega (arith, a.3, nest) in (
+      form.Apply a.0,
+      a.1 ++ (inner ++ Close ∷ []),
+      k ∙ ap (λ us. us ++ (inner ++ Close ∷ [])) a.2,
+      fits,
+      both (arguments a.0) (AnExpr room ∷ It Close ∷ []) more a.1 (inner ++ Close ∷ []) a.4 (operand_is room more inner x px),
+    )

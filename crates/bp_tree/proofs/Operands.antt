@@ -1,15 +1,14 @@
 -- Operands of a merge, up to the parenthesis.
-use Rattle.std.proofs.Common.{◌≡◌, ◌≤◌, ℕ, ◌+◌, List, [], ◌∷◌, ◌++◌, refl, sym, ap, subst, ◌∙◌, append_assoc, codes}
+use Rattle.std.proofs.Common.{◌≡◌, ℕ, ◌+◌, List, [], ◌∷◌, ◌++◌, refl, sym, ap, subst, ◌∙◌, append_assoc}
 use Rattle.std.proofs.lemmas.List.{append-nil}
 use Rattle.omos_model.specs.declared.expr.Expr.{Expr}
-use Rattle.omos_model.specs.declared.expr.Expr.TheVariants as expr
 use Rattle.bp_tree.specs.Tokens.{Token, Open, Close, Word, Placed}
 use Rattle.bp_tree.specs.Texts.{words_of}
-use Rattle.bp_tree.specs.Grammar.{IsExpr, AreExprs, IsOpened, Merges, Overrides, Applies}
-use Rattle.bp_tree.specs.Symbols.{Sym, AnExpr, Exprs, IsSym, AreSyms, Fails, AreRead, HasGrown, WhyStops, AreOperands}
+use Rattle.bp_tree.specs.Grammar.{IsExpr, AreExprs}
+use Rattle.bp_tree.specs.Symbols.{Sym, AnExpr, Exprs, AreSyms, Fails, AreRead, HasGrown, WhyStops, AreOperands}
 use Rattle.bp_tree.specs.declared.stop.Stop.{Stop}
-use Rattle.bp_tree.specs.declared.stop.Stop.TheVariants.{Early, At}
-use Rattle.bp_tree.proofs.Failing.{Sample, IsNeverEmpty, fails_early, leads_step}
+use Rattle.bp_tree.specs.declared.stop.Stop.TheVariants.{Early}
+use Rattle.bp_tree.proofs.Failing.{IsNeverEmpty, fails_early, leads_step}
 use Rattle.bp_tree.proofs.Expressions.{expr_first, expr_nil}
 use Rattle.bp_tree.proofs.NameLists.{nothing_yet, fails_on, ends, words-append}
 use Rattle.bp_tree.proofs.Sequences.{DiffersAtClose, unless_closed}
@@ -30,8 +29,12 @@ joined room ss more ws h =
       h.0 ++ k.0,
       k.1,
       h.2 ∙ ap (λ us. h.0 ++ us) k.2 ∙ sym (append_assoc h.0 k.0 k.1),
-      (h.0 ++ k.3.0, h.3.0 ∷ k.3.1, ap (λ us. h.0 ++ us) k.3.2 ∙ sym (append_assoc h.0 k.3.0 (Close ∷ [])),
-      (h.0, k.3.0, refl, h.3.1, k.3.3)),
+      (
+        h.0 ++ k.3.0,
+        h.3.0 ∷ k.3.1,
+        ap (λ us. h.0 ++ us) k.3.2 ∙ sym (append_assoc h.0 k.3.0 (Close ∷ [])),
+        (h.0, k.3.0, refl, h.3.1, k.3.3),
+      ),
       k.4,
     )
 

@@ -1,8 +1,8 @@
 -- Parts of an image that may be left out.
-use Rattle.std.proofs.Common.{◌≡◌, ℕ, List, [], ◌∷◌, ◌++◌, refl, sym, ap, subst, ◌∙◌, ◌⊎◌, inl, inr}
-use Rattle.bp_tree.specs.Tokens.{Token, Open, Close, Word, Placed}
+use Rattle.std.proofs.Common.{◌≡◌, ℕ, List, [], ◌∷◌, ◌++◌, refl, sym, ap, subst, ◌⊎◌, inl, inr}
+use Rattle.bp_tree.specs.Tokens.{Token, Open, Word, Placed}
 use Rattle.bp_tree.specs.Texts.{words_of}
-use Rattle.bp_tree.specs.TextFaults.{Language, Begins, CallsForNumber, IsNumberWord}
+use Rattle.bp_tree.specs.TextFaults.{Language, Begins, IsNumberWord}
 use Rattle.bp_tree.specs.Symbols.{WhyStops}
 use Rattle.bp_tree.specs.Header.{IsOpening}
 use Rattle.bp_tree.specs.declared.stop.Stop.{Stop}
@@ -100,6 +100,7 @@ unless_key K L key ts stop incl d none opens v begins other h =
     moved : (front : List Placed) → words_of front ≡ Open ∷ [] → Begins K 0 (words_of front ++ Word v ∷ [])
     moved front e =
         let P : List Token → Type 0 = λ us. Begins K 0 (us ++ Word v ∷ []) in subst P (sym e) begins
+
     at_once : (front : List Placed) (u : Token) → front ≡ [] → u ≡ Open → (more : ℕ) → Begins K more (words_of front ++ u ∷ [])
     at_once front u e h more =
         let P : List Placed → Type 0 = λ us. Begins K more (words_of us ++ u ∷ []) in

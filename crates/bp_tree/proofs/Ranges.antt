@@ -1,12 +1,11 @@
 -- The numbers of a range, and what may be wrong with them.
-use Rattle.std.proofs.Common.{◌≡◌, ◌≤◌, ◌<◌, ℕ, ◌+◌, List, [], ◌∷◌, ◌++◌, refl, sym, ap, subst, ◌∙◌, inl, inr, codes, arith, length, IsTrue, true, false}
-use Rattle.std.specs.Str.Parse.{IsNumeral, digits_value}
+use Rattle.std.proofs.Common.{◌≡◌, ℕ, List, [], ◌∷◌, ◌++◌, refl, sym, ap, subst, ◌∙◌, inl, codes, arith, IsTrue}
 use Rattle.omos_model.specs.ImageParts.{is_range, top}
 use Rattle.omos_model.specs.declared.refusal.BpFault.{BpFault}
 use Rattle.omos_model.specs.declared.refusal.BpFault.TheVariants.{Shape, Number, Range}
 use Rattle.bp_tree.specs.Tokens.{Token, Open, Close, Word, Placed}
 use Rattle.bp_tree.specs.Numerals.{IsNumeralOf}
-use Rattle.bp_tree.specs.TextFaults.{Language, Begins, CallsForNumber, IsNumberWord, IsTokenFault}
+use Rattle.bp_tree.specs.TextFaults.{Begins, CallsForNumber, IsNumberWord, IsTokenFault}
 use Rattle.bp_tree.specs.Texts.{words_of}
 use Rattle.bp_tree.specs.Symbols.{Sym, It, Low, High, IsSym, AreSyms, Completable, Fails, AreRead, WhyStops}
 use Rattle.bp_tree.specs.Header.{AreBounds, IsUpper}
@@ -195,9 +194,13 @@ low_lead : (ts : List Placed) (t : Placed) (after : List Placed) (w : List ℕ) 
     → IsNumeralOf w lo → (ss : List Sym) (stop : Stop)
     → WhyStops (AreSyms (High lo ∷ ss)) after stop → WhyStops (AreSyms (Low ∷ ss)) ts stop
 low_lead ts t after w lo e is number = leads_step (Low ∷ []) (High lo ∷ []) t ts after e
-    (λ ss more ws a.
-    (Word w ∷ a.0, a.1, ap (λ u. u ∷ ws) is ∙ ap (λ us. Word w ∷ us) a.2,
-    (w, a.3.0, lo, a.3.1, ap (λ us. Word w ∷ us) a.3.2, number, a.3.3, a.3.4), a.4))
+    (λ ss more ws a. (
+      Word w ∷ a.0,
+      a.1,
+      ap (λ u. u ∷ ws) is ∙ ap (λ us. Word w ∷ us) a.2,
+      (w, a.3.0, lo, a.3.1, ap (λ us. Word w ∷ us) a.3.2, number, a.3.3, a.3.4),
+      a.4,
+    ))
     (λ ss more ws a. low_front w lo ws a.0 a.1 more ss (ap (λ u. u ∷ ws) (sym is) ∙ a.2) number a.3 a.4)
 
 pub low_fails : (ts : List Placed) (t : Placed) (after : List Placed) (w : List ℕ) (lo : ℕ) (stop : Stop) → ts ≡ t ∷ after

@@ -1,10 +1,10 @@
 -- A word is a longest run of bytes that a name may have.
-use Rattle.std.proofs.Common.{◌≡◌, ℕ, zero, suc, ◌+◌, ◌≤◌, ◌==◌, Bool, true, false, IsTrue, List, [], ◌∷◌, ◌++◌}
-use Rattle.std.proofs.Common.{length, refl, arith, ◌&&◌, not, ap, sym, subst, ◌∙◌, cond, take, drop}
+use Rattle.std.proofs.Common.{◌≡◌, ℕ, ◌+◌, ◌≤◌, ◌==◌, Bool, true, false, IsTrue, List, [], ◌∷◌, ◌++◌}
+use Rattle.std.proofs.Common.{length, refl, arith, ◌&&◌, ap, sym, subst, ◌∙◌, cond, take, drop}
 use Rattle.std.proofs.lemmas.List.{take-append-drop, length-take-le}
 use Rattle.std.specs.List.{list_all}
 use Rattle.omos_model.specs.Names.{is_name_byte}
-use Rattle.bp_tree.specs.Tokens.{Token, Word, Placed, tokens_from, begins_word, is_blank, in_front, mark}
+use Rattle.bp_tree.specs.Tokens.{Word, Placed, tokens_from, begins_word, is_blank, in_front, mark}
 
 pub no_comment : (b : ℕ) → is_name_byte b ≡ true → (b == 59) ≡ false
 no_comment b h = grind arith
@@ -25,21 +25,21 @@ word_then run place more =
 -- the tests on a byte, as variables
 one : (place b : ℕ) (more : List ℕ) (s k n w : Bool) → s ≡ false → k ≡ false → n ≡ true → w ≡ false
     → cond s (tokens_from true (place + 1) more)
-        (cond k (tokens_from false (place + 1) more)
-        (cond (n && w) (in_front b place (tokens_from false (place + 1) more))
-        (record { token = cond n (Word (b ∷ [])) (mark b); place = place }
-        ∷ tokens_from false (place + 1) more)))
-        ≡ record { token = Word (b ∷ []); place = place } ∷ tokens_from false (place + 1) more
+    (cond k (tokens_from false (place + 1) more)
+    (cond (n && w) (in_front b place (tokens_from false (place + 1) more))
+    (record { token = cond n (Word (b ∷ [])) (mark b); place = place }
+    ∷ tokens_from false (place + 1) more)))
+    ≡ record { token = Word (b ∷ []); place = place } ∷ tokens_from false (place + 1) more
 one place b more s k n w e f g h = rw (e, f, g, h) refl
 
 several : (place b : ℕ) (rest : List ℕ) (s k n w : Bool) → s ≡ false → k ≡ false → n ≡ true
     → w ≡ true
     → cond s (tokens_from true (place + 1) rest)
-        (cond k (tokens_from false (place + 1) rest)
-        (cond (n && w) (in_front b place (tokens_from false (place + 1) rest))
-        (record { token = cond n (Word (b ∷ [])) (mark b); place = place }
-        ∷ tokens_from false (place + 1) rest)))
-        ≡ in_front b place (tokens_from false (place + 1) rest)
+    (cond k (tokens_from false (place + 1) rest)
+    (cond (n && w) (in_front b place (tokens_from false (place + 1) rest))
+    (record { token = cond n (Word (b ∷ [])) (mark b); place = place }
+    ∷ tokens_from false (place + 1) rest)))
+    ≡ in_front b place (tokens_from false (place + 1) rest)
 several place b rest s k n w e f g h = rw (e, f, g, h) refl
 
 pub word_first : (b : ℕ) (run more : List ℕ) (place : ℕ)
@@ -48,15 +48,15 @@ pub word_first : (b : ℕ) (run more : List ℕ) (place : ℕ)
 word_first b [] more place all ends =
     let n = first_named b [] all in
     one place b more (b == 59) (is_blank b) (is_name_byte b) (begins_word more) (no_comment b n)
-        (no_blank b n) n ends
+    (no_blank b n) n ends
 word_first b (c ∷ run) more place all ends =
     let n = first_named b (c ∷ run) all in
     let after = more_named b (c ∷ run) all in
     let e : place + 1 + length (c ∷ run) ≡ place + length (b ∷ c ∷ run) = omega arith in
     several place b ((c ∷ run) ++ more) (b == 59) (is_blank b) (is_name_byte b) (is_name_byte c)
-        (no_comment b n) (no_blank b n) n (first_named c run after)
-        ∙ ap (in_front b place) (word_first c run more (place + 1) after ends)
-        ∙ ap (λ p. record { token = Word (b ∷ c ∷ run); place = place } ∷ tokens_from false p more) e
+    (no_comment b n) (no_blank b n) n (first_named c run after)
+    ∙ ap (in_front b place) (word_first c run more (place + 1) after ends)
+    ∙ ap (λ p. record { token = Word (b ∷ c ∷ run); place = place } ∷ tokens_from false p more) e
 
 split_word : (run more : List ℕ) (place : ℕ) → begins_word (run ++ more) ≡ true
     → IsTrue (list_all is_name_byte run) → begins_word more ≡ false
@@ -68,13 +68,13 @@ pub word_at : (bytes : List ℕ) (place size : ℕ) → begins_word bytes ≡ tr
     → size ≤ length bytes → IsTrue (list_all is_name_byte (take size bytes))
     → begins_word (drop size bytes) ≡ false
     → tokens_from false place bytes
-        ≡ record { token = Word (take size bytes); place = place }
-        ∷ tokens_from false (place + size) (drop size bytes)
+    ≡ record { token = Word (take size bytes); place = place }
+    ∷ tokens_from false (place + size) (drop size bytes)
 word_at bytes place size begins within all ends =
     let whole = take-append-drop size bytes in
     let long : length (take size bytes) ≡ size = length-take-le size bytes within in
     let P : List ℕ → Type 0 = λ bs. begins_word bs ≡ true in
     ap (tokens_from false place) (sym whole)
-        ∙ split_word (take size bytes) (drop size bytes) place (subst P (sym whole) begins) all ends
-        ∙ ap (λ n. record { token = Word (take size bytes); place = place }
-        ∷ tokens_from false (place + n) (drop size bytes)) long
+    ∙ split_word (take size bytes) (drop size bytes) place (subst P (sym whole) begins) all ends
+    ∙ ap (λ n. record { token = Word (take size bytes); place = place }
+    ∷ tokens_from false (place + n) (drop size bytes)) long

@@ -1,19 +1,16 @@
 -- Each symbol has something that is it.
-use Rattle.std.proofs.Common.{◌≡◌, ◌≤◌, ◌<◌, ℕ, zero, suc, ◌+◌, List, [], ◌∷◌, ◌++◌, refl, codes, All, inl, inr, arith, length, ◌⊎◌, map}
+use Rattle.std.proofs.Common.{◌≡◌, ◌≤◌, ◌<◌, ℕ, zero, suc, List, [], ◌∷◌, refl, codes, inl, inr, arith, ◌⊎◌}
 use Rattle.std.proofs.lemmas.List.Elements.{All-nil, All-cons}
 use Rattle.std.specs.Char.{digit_value}
-use Rattle.std.specs.Str.Parse.{IsNumeral}
 use Rattle.omos_base.specs.SymNames.{IsNameByte, IsSymName}
 use Rattle.omos_base.specs.Paths.{IsPartByte, IsPart, IsPath}
 use Rattle.omos_model.specs.Op.{Freeze}
 use Rattle.omos_model.specs.declared.expr.Expr.{Expr}
 use Rattle.omos_model.specs.declared.expr.Expr.TheVariants as expr
-use Rattle.omos_model.specs.declared.entry.Start.TheVariants.{Named}
 use Rattle.bp_tree.specs.Tokens.{Token, Open, Close, Word}
 use Rattle.bp_tree.specs.Numerals.{IsNumeralOf}
 use Rattle.bp_tree.specs.Grammar.{IsExpr, IsPathOf, IsOpened, Applies}
 use Rattle.bp_tree.specs.TextFaults.{IsNumberWord}
-use Rattle.bp_tree.specs.Symbols.{Sym, It, AName, Names, AnExpr, Inside, Exprs, AStart, ARange, Low, High, IsSym}
 
 pub name_a : IsSymName (97 ∷ [])
 name_a = ((omega arith, omega arith), All-cons IsNameByte 97 [] (inl (omega arith, omega arith), (λ h. omega arith), (λ h. omega arith), (λ h. omega arith), λ h. omega arith) (All-nil IsNameByte))

@@ -1,8 +1,8 @@
 -- Symbols read one after the other, and languages that differ elsewhere.
-use Rattle.std.proofs.Common.{◌≡◌, ℕ, List, [], ◌∷◌, ◌++◌, refl, sym, ap, subst, ◌∙◌, append_assoc}
+use Rattle.std.proofs.Common.{◌≡◌, ℕ, List, [], ◌∷◌, ◌++◌, sym, ap, subst, ◌∙◌, append_assoc}
 use Rattle.omos_model.specs.declared.refusal.BpFault.{BpFault}
 use Rattle.omos_model.specs.declared.refusal.BpFault.TheVariants.{Long, Byte, Shape, Deep, Number, Range}
-use Rattle.bp_tree.specs.Tokens.{Token, Open, Close, Word, Placed}
+use Rattle.bp_tree.specs.Tokens.{Token, Close, Word, Placed}
 use Rattle.bp_tree.specs.Texts.{words_of}
 use Rattle.bp_tree.specs.TextFaults.{Language, Begins, CallsForNumber, IsTokenFault}
 use Rattle.bp_tree.specs.Symbols.{Sym, AreSyms, Completable, Fails, AreRead, WhyStops}
@@ -118,16 +118,16 @@ unless_closed K L ts t after stop e other incl d h =
     let P : List Placed → Type 0 = λ us. WhyStops L us stop in
     let Q : List Placed → Type 0 = λ us. WhyStops K us stop in
     subst P (sym e) (narrowed K L (t ∷ after) stop incl
-        (λ l. d 0 t.token (words_of after) other l)
-        (close_own K L d t after other)
-        (λ front u behind parts. (
-          (λ c. (
-            (c.0.0, (c.0.1.0, incl 0 ((words_of front ++ Word c.0.0 ∷ []) ++ c.0.1.0) c.0.1.1)),
-            λ word b. c.1 word (close_word K L d t after other front u behind parts word b),
-          )),
-          λ c. (
-            (c.0.0, close_word K L d t after other front u behind parts c.0.0 c.0.1),
-            λ word b. c.1 word (b.0, incl 0 ((words_of front ++ Word word ∷ []) ++ b.0) b.1),
-          ),
-        ))
-        (subst Q e h))
+    (λ l. d 0 t.token (words_of after) other l)
+    (close_own K L d t after other)
+    (λ front u behind parts. (
+      (λ c. (
+        (c.0.0, (c.0.1.0, incl 0 ((words_of front ++ Word c.0.0 ∷ []) ++ c.0.1.0) c.0.1.1)),
+        λ word b. c.1 word (close_word K L d t after other front u behind parts word b),
+      )),
+      λ c. (
+        (c.0.0, close_word K L d t after other front u behind parts c.0.0 c.0.1),
+        λ word b. c.1 word (b.0, incl 0 ((words_of front ++ Word word ∷ []) ++ b.0) b.1),
+      ),
+    ))
+    (subst Q e h))

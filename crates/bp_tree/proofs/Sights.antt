@@ -1,6 +1,6 @@
 -- The tokens of the code, and what they are seen as.
-use Rattle.std.proofs.Common.{◌≡◌, ℕ, List, sym, ap, ◌∙◌, subst, IsTrue, true, false}
-use Rattle.bp_tree.specs.Tokens.{Token, Open, Close, Word, Barred}
+use Rattle.std.proofs.Common.{◌≡◌, ℕ, List, sym, ap, ◌∙◌, IsTrue, true, false}
+use Rattle.bp_tree.specs.Tokens.{Open, Close, Word, Barred}
 use Rattle.bp_tree.specs.Pending.{seen}
 use Rattle.bp_tree.specs.declared.token.Token as kind
 use Rattle.bp_tree.specs.declared.token.Token.TheVariants as code

@@ -1,13 +1,11 @@
 -- Single tokens and names.
-use Rattle.std.proofs.Common.{◌≡◌, ℕ, ◌+◌, ◌<◌, ◌≤◌, List, [], ◌∷◌, ◌++◌, refl, sym, ap, subst, ◌∙◌, ◌⊎◌, inl, inr, codes, All, map, arith, length}
-use Rattle.std.proofs.lemmas.List.Elements.{All-nil, All-cons}
-use Rattle.omos_base.specs.SymNames.{IsSymName, IsNameByte, HasNameFault}
+use Rattle.std.proofs.Common.{◌≡◌, ℕ, List, [], ◌∷◌, ◌++◌, refl, ap, subst, ◌∙◌, inl, inr, codes}
+use Rattle.omos_base.specs.SymNames.{IsSymName, HasNameFault}
 use Rattle.omos_base.specs.declared.sym_name.NameFault.{NameFault}
 use Rattle.omos_base.specs.declared.sym_name.NameFault.TheVariants.{Length, Byte}
 use Rattle.omos_model.specs.declared.refusal.BpFault.TheVariants.{Shape}
-use Rattle.bp_tree.specs.Tokens.{Token, Open, Close, Word, Barred, Placed}
-use Rattle.bp_tree.specs.TextFaults.{IsNumberWord}
-use Rattle.bp_tree.specs.Symbols.{Sym, It, AName, Names, IsSym, AreSyms, Fails, AreRead, HasGrown}
+use Rattle.bp_tree.specs.Tokens.{Token, Open, Close, Word, Placed}
+use Rattle.bp_tree.specs.Symbols.{It, AName, AreSyms, Fails, AreRead}
 use Rattle.bp_tree.specs.declared.stop.Stop.TheVariants.{Early, At}
 use Rattle.bp_tree.proofs.Samples.{name_a, no_number_a, no_number_image}
 use Rattle.bp_tree.proofs.Failing.{Sample, IsNeverEmpty, IsUncalled, fails_early, fails_shape, leads_step}

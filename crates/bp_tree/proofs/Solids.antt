@@ -1,10 +1,10 @@
 -- Something is said in each symbol.
-use Rattle.std.proofs.Common.{List, [], ◌∷◌, refl, ℕ}
+use Rattle.std.proofs.Common.{[], ◌∷◌, refl, ℕ}
 use Rattle.std.proofs.lemmas.List.Elements.{All-nil}
 use Rattle.omos_base.specs.SymNames.{IsSymName}
 use Rattle.omos_model.specs.declared.expr.Expr.TheVariants as expr
 use Rattle.bp_tree.specs.Tokens.{Token, Close, Word}
-use Rattle.bp_tree.specs.Symbols.{Sym, It, AName, Names, AnExpr, Exprs, Completable}
+use Rattle.bp_tree.specs.Symbols.{It, AName, Names, AnExpr, Exprs}
 use Rattle.bp_tree.proofs.Samples.{name_a, expr_a}
 use Rattle.bp_tree.proofs.Failing.{completes}
 use Rattle.bp_tree.proofs.Sequences.{IsSolid}

@@ -1,9 +1,9 @@
 -- The canonical text of an image.
-use Rattle.std.specs.Prelude.{ℕ, ◌==◌, ◌&&◌, Bool, true, false, cond, List, [], ◌∷◌, ◌++◌, codes}
+use Rattle.std.specs.Prelude.{ℕ, ◌==◌, ◌&&◌, false, cond, List, [], ◌∷◌, ◌++◌, codes}
 use Rattle.std.specs.List.{flat_map}
 use Rattle.std.specs.Fmt.{digits}
 use Rattle.omos_model.specs.ImageParts.{ImageParts}
-use Rattle.omos_model.specs.Names.{Name, same_name}
+use Rattle.omos_model.specs.Names.{same_name}
 use Rattle.omos_model.specs.declared.entry.Start.{Start}
 use Rattle.omos_model.specs.declared.entry.Start.TheVariants.{Named, NoEntry}
 use Rattle.omos_model.specs.declared.expr.Expr.{Expr}

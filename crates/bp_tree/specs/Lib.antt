@@ -7,3 +7,5 @@ pub mod Canonical
 pub mod Pending
 pub mod Symbols
 pub mod Header
+pub mod Examples
+pub mod Laws

@@ -3,7 +3,7 @@ use Rattle.std.specs.Prelude.{◌≡◌, ◌<◌, ◌≤◌, ◌+◌, ℕ, ◌�
 use Rattle.omos_model.specs.ImageParts.{ImageParts}
 use Rattle.omos_model.specs.declared.refusal.BpFault.{BpFault}
 use Rattle.omos_model.specs.declared.refusal.BpFault.TheVariants.{Long, Byte, Shape, Deep, Number, Range}
-use Rattle.bp_tree.specs.Tokens.{Token, Open, Close, Word, Barred, Placed, tokens_of}
+use Rattle.bp_tree.specs.Tokens.{Token, Open, Word, Barred, Placed, tokens_of}
 use Rattle.bp_tree.specs.Numerals.{IsNumeralOf}
 use Rattle.bp_tree.specs.Grammar.{IsImageOf}
 use Rattle.bp_tree.specs.Texts.{words_of, max_room}

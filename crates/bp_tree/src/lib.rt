@@ -6,6 +6,7 @@
 mod bounds;
 mod form;
 mod header;
+pub mod laws;
 mod leaves;
 mod nodes;
 mod numbers;

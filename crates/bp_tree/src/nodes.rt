@@ -36,10 +36,7 @@ fn two_names<'a>(
 }
 
 /// A list of names in parentheses, and what comes after it.
-fn listed<'a>(
-    alloc: Global,
-    from: Reader<'a>,
-) -> Result<(Items<SymName>, Reader<'a>), Fault<Stop>>
+fn listed<'a>(alloc: Global, from: Reader<'a>) -> Result<(Items<SymName>, Reader<'a>), Fault<Stop>>
     ensures { MatchFault result (λ r. AreRead (It token.Open ∷ Names ∷ [])
         (λ ws. (ws ≡ token.Open ∷ (map token.Word r.0 ++ token.Close ∷ [])) × All IsSymName r.0)
         (pending from.entry) (pending r.1))
@@ -97,7 +94,7 @@ fn applied<'a>(
     requires { kind_nesting kind ≤ room }
     ensures { MatchFault result (λ r. AreRead (behind room (Form.Apply kind))
         (λ ws. IsOpened room (IsExpr room)
-            (token.Open ∷ token.Word (keyword (Form.Apply kind)) ∷ ws) r.0)
+        (token.Open ∷ token.Word (keyword (Form.Apply kind)) ∷ ws) r.0)
         (pending from.entry) (pending r.1))
         (Fails (behind room (Form.Apply kind)) (pending from.entry)) }
 {
@@ -116,7 +113,7 @@ fn overridden<'a>(
 ) -> Result<(Expr, Reader<'a>), Fault<Stop>>
     ensures { MatchFault result (λ r. AreRead (behind room Form.Override)
         (λ ws. IsOpened room (IsExpr room)
-            (token.Open ∷ token.Word (keyword Form.Override) ∷ ws) r.0)
+        (token.Open ∷ token.Word (keyword Form.Override) ∷ ws) r.0)
         (pending from.entry) (pending r.1)) (Fails (behind room Form.Override) (pending from.entry)) }
 {
     let (left, after) = expr(alloc, from, room)?;
@@ -167,14 +164,10 @@ fn pair(alloc: Global, first: Expr, second: Expr) -> Result<Items<Expr>, NoMemor
 
 /// The operands of a merge.
 #[cycle(expression)]
-fn merged<'a>(
-    alloc: Global,
-    from: Reader<'a>,
-    room: u32,
-) -> Result<(Expr, Reader<'a>), Fault<Stop>>
+fn merged<'a>(alloc: Global, from: Reader<'a>, room: u32) -> Result<(Expr, Reader<'a>), Fault<Stop>>
     ensures { MatchFault result (λ r. AreRead (behind room Form.Merge)
         (λ ws. IsOpened room (IsExpr room)
-            (token.Open ∷ token.Word (keyword Form.Merge) ∷ ws) r.0)
+        (token.Open ∷ token.Word (keyword Form.Merge) ∷ ws) r.0)
         (pending from.entry) (pending r.1)) (Fails (behind room Form.Merge) (pending from.entry)) }
 {
     let (first, after) = expr(alloc, from, room)?;
@@ -186,11 +179,7 @@ fn merged<'a>(
 
 /// What stands behind the first parenthesis of an expression.
 #[cycle(expression)]
-fn inside<'a>(
-    alloc: Global,
-    from: Reader<'a>,
-    room: u32,
-) -> Result<(Expr, Reader<'a>), Fault<Stop>>
+fn inside<'a>(alloc: Global, from: Reader<'a>, room: u32) -> Result<(Expr, Reader<'a>), Fault<Stop>>
     ensures { MatchFault result (λ r. AreRead (Inside room ∷ [])
         (λ ws. IsOpened room (IsExpr room) (token.Open ∷ ws) r.0) (pending from.entry) (pending r.1))
         (Fails (Inside room ∷ []) (pending from.entry)) }

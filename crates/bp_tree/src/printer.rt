@@ -5,7 +5,6 @@
 
 ghost use Rattle.std.specs.Prelude.{◌≡◌, ◌++◌, ◌∷◌, [], codes, map, IfOk, OnOk, IsTrue, ◌↔◌};
 ghost use Rattle.std.specs.Fmt.{digits};
-
 ghost use Rattle.bp_tree.specs.Canonical.{spaced, each_spaced, expr_text, start_text, hex_text};
 ghost use Rattle.bp_tree.specs.Canonical.{range_text, canonical_text};
 
@@ -131,12 +130,7 @@ fn push_start(text: &mut Bytes, start: &Start) -> Result<(), NoMemory>
 }
 
 /// Appends the range and a space, where it isn't the default.
-fn push_range(
-    alloc: Global,
-    text: &mut Bytes,
-    lo: u64,
-    hi: u64,
-) -> Result<(), NoMemory>
+fn push_range(alloc: Global, text: &mut Bytes, lo: u64, hi: u64) -> Result<(), NoMemory>
     ensures { OnOk result (text.new ≡ text.old ++ range_text lo hi) }
 {
     if lo == 0x40_0000 && hi == 0x4000_0000 {

@@ -1,8 +1,6 @@
-use Rattle.std.proofs.Common.{[], ◌∷◌, ap, sym, ◌∙◌, ◌≡◌, true, false, IsTrue}
-use Rattle.omos_model.specs.ImageParts.{is_range, top}
-use Rattle.bp_tree.specs.Tokens.{Close, Word}
+use Rattle.std.proofs.Common.{[], ◌∷◌, ap, sym, ◌∙◌}
 use Rattle.bp_tree.specs.Pending.{pending, placed, seen}
-use Rattle.bp_tree.specs.Symbols.{It, Low, High, Fails}
+use Rattle.bp_tree.specs.Symbols.{Low, High, Fails}
 use Rattle.bp_tree.proofs.Arms.{fault_onward}
 use Rattle.bp_tree.proofs.Sights.{seen_word, not_true}
 use Rattle.bp_tree.proofs.Ranges.{low_early, low_shape, low_none, low_off, low_fails, low_read}
@@ -14,26 +12,26 @@ returns-in-None c = low_early (pending c.args.from) c.in-None.ensures
 pub returns-in_default : goal.returns-in_default
 returns-in_default c =
     low_shape (pending c.args.from) (placed c.in-Some.next) (pending c.in-Some.next.after) c.in-Some.ensures
-        (λ w h. seen_word c.in-Some.next.token w h (λ u e _. c.in_default.not-Word u e))
+    (λ w h. seen_word c.in-Some.next.token w h (λ u e _. c.in_default.not-Word u e))
 
 pub returns-in-None-number : goal.returns-in-None-number
 returns-in-None-number c =
     low_none (pending c.args.from) (placed c.in-Some.next) (pending c.in-Some.next.after) c.in-Some.ensures
-        c.in-Word.word.now (ap seen c.in-Word.is) c.in-None-number.ensures
+    c.in-Word.word.now (ap seen c.in-Word.is) c.in-None-number.ensures
 
 pub returns-else-are_bounds : goal.returns-else-are_bounds
 returns-else-are_bounds c =
     low_off (pending c.args.from) (placed c.in-Some.next) (pending c.in-Some.next.after) c.in-Some.ensures
-        c.in-Word.word.now c.in-Some-number.lo (ap seen c.in-Word.is) c.in-Some-number.ensures
-        (λ h. not_true (sym c.if-are_bounds.false ∙ c.are_bounds.ensures ∙ h))
+    c.in-Word.word.now c.in-Some-number.lo (ap seen c.in-Word.is) c.in-Some-number.ensures
+    (λ h. not_true (sym c.if-are_bounds.false ∙ c.are_bounds.ensures ∙ h))
 
 pub returns-in-Ok : goal.returns-in-Ok
 returns-in-Ok c =
     low_read (pending c.args.from) (placed c.in-Some.next) (pending c.in-Some.next.after) (pending c.in-Ok.after) c.in-Word.word.now
-        c.in-Some-number.lo c.in-Ok.hi c.in-Some.ensures (ap seen c.in-Word.is) c.in-Some-number.ensures c.in-Ok.ensures
+    c.in-Some-number.lo c.in-Ok.hi c.in-Some.ensures (ap seen c.in-Word.is) c.in-Some-number.ensures c.in-Ok.ensures
 
 pub returns-in-Err : goal.returns-in-Err
 returns-in-Err c =
     fault_onward _ c.in-Err.fault _ (Fails (High c.in-Some-number.lo ∷ []) (pending c.in-Some.next.after)) (Fails (Low ∷ []) (pending c.args.from)) c.in-Err.ensures
-        (λ stop f. low_fails (pending c.args.from) (placed c.in-Some.next) (pending c.in-Some.next.after) c.in-Word.word.now
-        c.in-Some-number.lo stop c.in-Some.ensures (ap seen c.in-Word.is) c.in-Some-number.ensures f)
+    (λ stop f. low_fails (pending c.args.from) (placed c.in-Some.next) (pending c.in-Some.next.after) c.in-Word.word.now
+    c.in-Some-number.lo stop c.in-Some.ensures (ap seen c.in-Word.is) c.in-Some-number.ensures f)

@@ -1,4 +1,4 @@
-use Rattle.std.proofs.Common.{[], ◌∷◌, ap, sym, ◌∙◌, ◌≡◌, subst, refl, List, ℕ, codes}
+use Rattle.std.proofs.Common.{[], ◌∷◌, sym, ◌∙◌, subst, refl, List, ℕ, codes}
 use Rattle.bp_tree.specs.Pending.{pending}
 use Rattle.bp_tree.specs.Header.{IsOpening, range_syms}
 use Rattle.bp_tree.specs.Symbols.{Low, Fails, AreSyms, WhyStops}
@@ -29,4 +29,4 @@ returns-in-Err c =
     let P : List ℕ → Type 0 = λ w. IsOpening (pending c.args.from) w (pending s.after) in
     let o : IsOpening (pending c.args.from) (codes "range") (pending s.after) = subst P (c.if-same.ensures.0 refl) s.ensures in
     fault_onward _ c.in-Err.fault _ (Fails (Low ∷ []) (pending s.after)) (WhyStops (AreSyms range_syms) (pending c.args.from)) c.in-Err.ensures
-        (λ stop f. range_fails (pending c.args.from) (pending s.after) stop o f)
+    (λ stop f. range_fails (pending c.args.from) (pending s.after) stop o f)

@@ -1,4 +1,4 @@
-use Rattle.std.proofs.Common.{[], ◌∷◌, ap, sym, ◌∙◌, ◌≡◌, subst, refl, List, ℕ, codes, inl, inr}
+use Rattle.std.proofs.Common.{[], ◌∷◌, sym, ◌∙◌, ◌≡◌, subst, refl, List, ℕ, codes, inl, inr}
 use Rattle.bp_tree.specs.Tokens.{Close}
 use Rattle.bp_tree.specs.Pending.{pending}
 use Rattle.bp_tree.specs.Header.{IsOpening, range_syms}
@@ -37,7 +37,7 @@ returns-in-Err c =
     let P : List ℕ → Type 0 = λ w. IsOpening (pending c.args.from) w (pending s.after) in
     let o : IsOpening (pending c.args.from) (codes "entry") (pending s.after) = subst P (c.if-same.ensures.0 refl) s.ensures in
     fault_onward _ c.in-Err.fault _ (Fails (AName ∷ It Close ∷ []) (pending s.after)) (WhyStops (AreSyms (AStart ∷ range_syms)) (pending c.args.from)) c.in-Err.ensures
-        (λ stop f. entry_fails (pending c.args.from) (pending s.after) stop o f)
+    (λ stop f. entry_fails (pending c.args.from) (pending s.after) stop o f)
 
 pub returns-in-Ok-close : goal.returns-in-Ok-close
 returns-in-Ok-close c =
@@ -52,4 +52,4 @@ returns-in-Err-close c =
     let P : List ℕ → Type 0 = λ w. IsOpening (pending c.args.from) w (pending s.after) in
     let o : IsOpening (pending c.args.from) (codes "no_entry") (pending s.after) = subst P (c.if-same-2.ensures.0 refl) s.ensures in
     fault_onward _ c.in-Err-close.fault _ (Fails (It Close ∷ []) (pending s.after)) (WhyStops (AreSyms (AStart ∷ range_syms)) (pending c.args.from)) c.in-Err-close.ensures
-        (λ stop f. none_fails (pending c.args.from) (pending s.after) stop o f)
+    (λ stop f. none_fails (pending c.args.from) (pending s.after) stop o f)

@@ -1,6 +1,6 @@
-use Rattle.std.proofs.Common.{ap, sym, subst, ◌∙◌, ◌≡◌, List, ℕ, inl}
+use Rattle.std.proofs.Common.{ap, sym, subst, ◌∙◌}
 use Rattle.omos_base.specs.SymNames.{IsSymName}
-use Rattle.bp_tree.specs.Tokens.{Token, Word}
+use Rattle.bp_tree.specs.Tokens.{Word}
 use Rattle.bp_tree.specs.Pending.{pending, placed, seen}
 use Rattle.bp_tree.proofs.Sights.{word_is, seen_word}
 use Rattle.bp_tree.proofs.Singles.{name_early, name_shape, name_read, not_name}
@@ -13,7 +13,7 @@ pub returns-in-Ok : goal.returns-in-Ok
 returns-in-Ok c =
     let named = c.in-Ok.ensures in
     name_read c.in-Ok.name (pending c.args.from) (placed c.in-Some.next) (pending c.in-Some.next.after) c.in-Some.ensures
-        (ap seen c.in-Word.is ∙ ap Word (sym named.0)) (subst IsSymName (sym named.0) named.1)
+    (ap seen c.in-Word.is ∙ ap Word (sym named.0)) (subst IsSymName (sym named.0) named.1)
 
 pub returns-in-Err-Refused : goal.returns-in-Err-Refused
 returns-in-Err-Refused c = name_shape (pending c.args.from) (placed c.in-Some.next) (pending c.in-Some.next.after) c.in-Some.ensures (λ n h is.

@@ -1,4 +1,4 @@
-use Rattle.std.proofs.Common.{◌≡◌, ◌++◌, ◌∷◌, [], All, map, length}
+use Rattle.std.proofs.Common.{◌≡◌, All, map, length}
 use Rattle.omos_base.specs.SymNames.{IsSymName}
 use Rattle.bp_tree.specs.Tokens.{Word}
 use Rattle.bp_tree.specs.Pending.{pending}

@@ -1,4 +1,4 @@
-use Rattle.std.proofs.Common.{[], ◌∷◌, ◌++◌, ◌≡◌, ap, ◌∙◌, map, All, codes, arith}
+use Rattle.std.proofs.Common.{[], ◌∷◌, ◌++◌, ◌≡◌, ap, map, All, codes, arith}
 use Rattle.omos_base.specs.SymNames.{IsSymName}
 use Rattle.bp_tree.specs.Tokens.{Open, Close, Word}
 use Rattle.bp_tree.specs.Pending.{pending}

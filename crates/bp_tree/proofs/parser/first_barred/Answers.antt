@@ -6,4 +6,4 @@ use Rattle.bp_tree.proofs.parser.first_barred.Goals as goal
 pub tokens-preserved : goal.tokens-preserved
 tokens-preserved c =
     passed_one (pending c.args.from) (pending c.tokens.rest) (pending c.in-Some.next.after) (placed c.in-Some.next)
-        c.tokens.invariant c.in-Some.ensures (λ byte h. allowed c.in-Some.next.token byte h c.in_default.not-Barred)
+    c.tokens.invariant c.in-Some.ensures (λ byte h. allowed c.in-Some.next.token byte h c.in_default.not-Barred)
