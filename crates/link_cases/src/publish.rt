@@ -26,7 +26,9 @@ fn entry_of(rt: &HostRuntime, content: &str) -> Result<Entry> {
 
 /// The next version, in which `PATH CONTENT` is published.
 pub(crate) fn publish(rt: &HostRuntime, snap: &Snap, stamp: u64, item: &str) -> Result<Snap> {
-    let (path, content) = item.split_once(' ').context("a path and what stands there")?;
+    let (path, content) = item
+        .split_once(' ')
+        .context("a path and what stands there")?;
     let entry = Shared::of(rt.alloc(), entry_of(rt, content.trim())?)?;
     Ok(snap.with(path_of(path)?, stamp, entry)?)
 }
