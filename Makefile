@@ -34,8 +34,11 @@ real: build
 	@rm -f crates/omos_fragment/out.log
 	@tests/real.py $(FRAGMENT) $(OMOSD)
 
+# The program reads its table from the folder that it is run in, so the run in its own folder only builds it.
 links:
-	@cd crates/link_cases && rt run > out.log 2>&1 || { tail -n 20 out.log; exit 1; }
+	@rm -f $(LINK_CASES)
+	@cd crates/link_cases && rt run > out.log 2>&1; test -x out/link_cases || { tail -n 20 out.log; exit 1; }
+	@cd crates/link_cases/data && ../out/link_cases > ../out.log && cmp ../out.log ../stdout
 	@rm -f crates/link_cases/out.log
 
 sweep: links
