@@ -2,12 +2,16 @@
 """Compares the linker's operators with late-bound names, descended at each use, on many blueprints.
 
     tests/sweep.py LINK_CASES [COUNT]
+    tests/sweep.py --rows
 
 It makes blueprints over the small objects of crates/link_cases/data: every expression of one
 operator, every one of two over some of the objects, and COUNT random ones of up to six operators
 (2,000 where left out; the same each time). What each must answer is worked out here by plain
 recursion on the expression: what a name is defined as and what a reference is, looked up anew at
 each use. The proved program LINK_CASES then links them all and says which answers differ.
+
+With --rows it writes some of them, 200 that are linked and each 40th that is refused, behind the
+other cases of crates/link_cases/data/cases.txt, and what the program is to print.
 """
 
 import itertools
@@ -248,19 +252,46 @@ def terms(count):
         yield some(random_, random_.randrange(3, 7))
 
 
+FILES = " & ".join(f"{path} {path[1:]}.o" for path in OBJECTS)
+
+
+def row(number, term):
+    return f"{number} | {FILES} & /m (image (no_entry) {term.text()}) | /m | {wanted(term)}"
+
+
+def write_rows():
+    """Writes rows behind those of the table that stand before this heading."""
+    heading = "# Rows that tests/sweep.py --rows wrote: blueprints beside plain descent through names."
+    table = HERE / "cases.txt"
+    rows = table.read_text().split("\n" + heading)[0].splitlines()
+    linked, refused = 0, 0
+    made = []
+    for number, term in enumerate(terms(2000)):
+        if wanted(term).startswith("line"):
+            refused += 1
+            is_taken = refused % 40 == 0
+        else:
+            linked += 1
+            is_taken = linked <= 200
+        if is_taken:
+            made.append(row(f"sweep {number}", term))
+    table.write_text("\n".join([*rows, "", heading, "", *made]) + "\n")
+    names = [line.split("|")[0].strip() for line in rows + made if line and line[0] != "#"]
+    (HERE.parent / "stdout").write_text("".join(f"ok {name}\n" for name in names))
+
+
 def main():
+    if sys.argv[1] == "--rows":
+        write_rows()
+        return
     program = str(Path(sys.argv[1]).resolve())
     count = int(sys.argv[2]) if len(sys.argv) > 2 else 2000
     with tempfile.TemporaryDirectory() as name:
         folder = Path(name)
         for path in HERE.glob("*.o"):
             shutil.copy(path, folder)
-        files = " & ".join(f"{path} {path[1:]}.o" for path in OBJECTS)
-        rows, refusals = [], 0
-        for number, term in enumerate(terms(count)):
-            want = wanted(term)
-            refusals += want.startswith("line")
-            rows.append(f"{number} | {files} & /m (image (no_entry) {term.text()}) | /m | {want}")
+        rows = [row(number, term) for number, term in enumerate(terms(count))]
+        refusals = sum(" line " in line for line in rows)
         (folder / "cases.txt").write_text("\n".join(rows) + "\n")
         said = subprocess.run([program], cwd=folder, capture_output=True, check=False, text=True)
         lines = said.stdout.splitlines()

@@ -2,7 +2,8 @@
 //! the namespace, links a path at 0x400000, and compares the answer with what is wanted. It prints a
 //! line a case: `ok NAME`, or what the case gave instead.
 //!
-//! The wanted bytes and refusals were worked out by hand from the rules of docs/FORMATS.md.
+//! The wanted bytes and refusals were worked out by hand from the rules of docs/FORMATS.md, or, behind
+//! the second heading of the table, by tests/sweep.py, which descends to each use of a name.
 #![tactic(auto)]
 
 mod answer;
