@@ -1,18 +1,17 @@
-# The instructions that a link takes, for the scripts that read this file: they set `cases` to the
-# program link_cases and `here` to the repository.
+# The instructions that a link takes, for the scripts that read this file with the program link_cases
+# as their first word.
 
-work=$(mktemp -d -p /dev/shm 2> /dev/null || mktemp -d)
-trap 'rm -rf "$work"' EXIT
-cd "$work"
+cases=$(realpath "$1")
+. "$(dirname "${BASH_SOURCE[0]}")/common.sh"
+need valgrind python3
 
 instructions() { # of a run over a table of cases, each of which must be answered as is wanted
     cp "$1" cases.txt
-    valgrind --tool=callgrind --callgrind-out-file=out "$cases" > answers 2> log
-    grep -q '^ok' answers || {
-        echo "bench: $(head -n 1 answers)" >&2
+    collected "$cases"
+    grep -q '^ok' output || {
+        echo "bench: $(head -n 1 output)" >&2
         exit 1
     }
-    sed -n 's/.*Collected : //p' log
 }
 
 link() { # KIND SIZE..: what the link itself takes
@@ -20,8 +19,8 @@ link() { # KIND SIZE..: what the link itself takes
     rm -f ./*.o ./*.txt
     python3 "$here/bench/links.py" "$here/tests" "$@"
     mv cases.txt whole.txt
-    whole=$(instructions whole.txt)
-    idle=$(instructions idle.txt)
+    whole=$(instructions whole.txt) || exit 1
+    idle=$(instructions idle.txt) || exit 1
     echo $((whole - idle))
 }
 

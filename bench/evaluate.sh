@@ -4,9 +4,7 @@
 #
 #   usage: bench/evaluate.sh LINK_CASES
 set -eu
-cases=$(realpath "$1")
-here=$(cd "$(dirname "$0")/.." && pwd)
-. "$here/bench/counts.sh"
+. "$(dirname "$0")/counts.sh"
 
 half=$(link objects 100)
 whole=$(link objects 200)

@@ -6,23 +6,14 @@
 #   usage: bench/objects.sh OMOSD
 set -eu
 omosd=$(realpath "$1")
-here=$(cd "$(dirname "$0")/.." && pwd)
-for tool in valgrind python3; do
-    command -v "$tool" > /dev/null || {
-        echo "bench: $tool is missing" >&2
-        exit 1
-    }
-done
-work=$(mktemp -d -p /dev/shm 2> /dev/null || mktemp -d)
-trap 'rm -rf "$work"' EXIT
-cd "$work"
+. "$(dirname "$0")/common.sh"
+need valgrind python3
 
 python3 "$here/bench/objects.py" "$here/tests"
 
 instructions() { # of a run over an object
-    valgrind --tool=callgrind --callgrind-out-file=out "$omosd" once < "$1" > image 2> log
-    cmp image "$1.image"
-    sed -n 's/.*Collected : //p' log
+    collected "$omosd" once < "$1"
+    cmp output "$1.image" >&2
 }
 
 per() { # WHAT SMALL LARGE COUNT

@@ -11,16 +11,8 @@
 set -eu
 omosd=$(realpath "$1")
 runs=${2:-100}
-here=$(cd "$(dirname "$0")/.." && pwd)
-for tool in as gcc ld; do
-    command -v "$tool" > /dev/null || {
-        echo "bench: $tool is missing: install the packages binutils and gcc" >&2
-        exit 1
-    }
-done
-work=$(mktemp -d -p /dev/shm 2> /dev/null || mktemp -d)
-trap 'rm -rf "$work"' EXIT
-cd "$work"
+. "$(dirname "$0")/common.sh"
+need as gcc ld
 
 gcc -c -ffreestanding -fno-stack-protector -O2 -o numerals.o "$here/examples/numerals/numerals.c"
 assemble() { # NAME WHAT-FOLLOWS

@@ -5,9 +5,7 @@
 #
 #   usage: bench/operators.sh LINK_CASES
 set -eu
-cases=$(realpath "$1")
-here=$(cd "$(dirname "$0")/.." && pwd)
-. "$here/bench/counts.sh"
+. "$(dirname "$0")/counts.sh"
 
 half=$(link merge 128)
 whole=$(link merge 256)

@@ -225,6 +225,7 @@ LINK_FILES = {
     "new.o": plain(b"\xc3" + b"\x90" * 15, 16, [("malloc", 0)], []),
     "trace.o": plain(CALL, 16, [("malloc", 0), ("old_malloc", None)], [(1, 4, 2, -4)]),
     "user.o": FILES["user.o"],
+    "twelve.o": FILES["twelve.o"],
     "ab.o": plain(b"\xc3\xc3", 1, [("b", 0), ("a", 1)], []),
     "ba.o": plain(b"\xc3\xc3", 1, [("a", 0), ("b", 1)], []),
 }
