@@ -8,17 +8,7 @@ ghost use Rattle.bp_tree.specs.Tokens as spec;
 ghost use Rattle.bp_tree.specs.Pending.{pending, AtToken, IsNext};
 
 use crate::token::{Next, Reader, Token};
-
-/// Whether a word may have the byte.
-fn is_word_byte(byte: u8) -> bool
-    ensures { result ≡ is_name_byte byte }
-{
-    ((33 <= byte && byte <= 126) || (128 <= byte))
-        && byte != b'"'
-        && byte != b'('
-        && byte != b')'
-        && byte != b';'
-}
+use omos_base::is_name_byte;
 
 /// Whether the byte separates tokens.
 fn is_blank(byte: u8) -> bool
@@ -33,7 +23,7 @@ fn starts_word(bytes: &[u8]) -> bool
 {
     match bytes {
         [] => false,
-        [byte, ..] => is_word_byte(*byte),
+        [byte, ..] => is_name_byte(*byte),
     }
 }
 
@@ -44,7 +34,7 @@ fn word_size(bytes: &[u8]) -> usize
     ensures longest { begins_word (drop result bytes.now) ≡ false }
 {
     for (size, byte) in bytes.iter().enumerate() {
-        if !is_word_byte(*byte) {
+        if !is_name_byte(*byte) {
             return size;
         }
     }

@@ -82,7 +82,3 @@ again_as file k name old found export before is =
 
 pub never_again : (file : List ℕ) (k : ℕ) → is_export file k ≡ false → is_again file k ≡ false
 never_again file k none = ap (λ b. b && is_defined_below file k (name_of file k)) none
-
-pub not_not : (a b : Bool) → not a ≡ b → a ≡ not b
-not_not true b h = ap not h
-not_not false b h = ap not h

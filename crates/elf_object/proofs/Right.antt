@@ -9,17 +9,8 @@ use Rattle.omos_model.specs.ElfFields.{symbol_count}
 use Rattle.omos_model.specs.ElfFaults.{has_name, is_kept, is_nobits, is_used_rela, lies_in_file}
 use Rattle.omos_model.specs.ElfFaults.{is_right_rela, is_wrong_rela, is_wrong_symbol, object_fault, rela}
 use Rattle.elf_object.specs.Stages.{IsReadable}
+use Rattle.omos_model.proofs.Joined.{rest_false, rest_true}
 use Rattle.omos_model.proofs.RightFile.{IsSectionNumber, IsSymbolNumber, right_file}
-
--- ---- tests joined
-
-rest_false : (a b : Bool) → (a && b) ≡ false → a ≡ true → b ≡ false
-rest_false true b h e = h
-rest_false false b h e = cc
-
-rest_true : (a b : Bool) → (a || b) ≡ true → a ≡ false → b ≡ true
-rest_true true b h e = cc
-rest_true false b h e = h
 
 -- ---- sections
 

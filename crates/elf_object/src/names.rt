@@ -5,6 +5,8 @@ ghost use Rattle.std.specs.Prelude.{nat_lt, slice_index};
 ghost use Rattle.std.specs.List.{list_any, list_all, prefix_len, take_while};
 ghost use Rattle.omos_model.specs.Names.{is_name_byte, is_symbol_name};
 
+use omos_base::is_name_byte;
+
 /// What stands from a place on, nothing where that is behind the end.
 pub(crate) fn rest_from(bytes: &[u8], place: u32) -> &[u8]
     ensures { result.now ≡ drop place bytes.now }
@@ -23,13 +25,6 @@ pub(crate) fn until_zero(bytes: &[u8]) -> &[u8]
         }
     }
     bytes
-}
-
-/// A byte that a symbol name may have, letters first.
-fn is_name_byte(byte: u8) -> bool
-    ensures { result ≡ is_name_byte byte }
-{
-    matches!(byte, b'<'..=b'~' | 0x80..=0xff | b'*'..=b':' | b'#'..=b'\'' | b'!')
 }
 
 /// How many bytes that a name may have stand in front.

@@ -16,20 +16,11 @@ use Rattle.omos_model.specs.Numbers.{numbers_from}
 use Rattle.omos_model.specs.ElfFaults.{common, entry_count, has_name, has_right_section, is_export, is_kept}
 use Rattle.omos_model.specs.ElfFaults.{is_aim_of, is_in_target, is_local, is_of_dropped, is_used_rela, is_wrong_entry, kind_of, object_fault}
 use Rattle.omos_model.specs.FragmentOf.{is_common}
+use Rattle.omos_model.proofs.Joined.{rest_false, rest_true}
 use Rattle.omos_model.proofs.Pieces.{kept_section, section_number}
 use Rattle.omos_model.proofs.Ranges.{InRange}
 use Rattle.omos_model.proofs.RightFile.{IsSymbolNumber, right_file, right_symbol}
 use Rattle.fragment_read.specs.Numbered.{is_placed}
-
--- ---- tests joined
-
-pub rest_false : (a b : Bool) → (a && b) ≡ false → a ≡ true → b ≡ false
-rest_false true b h e = h
-rest_false false b h e = cc
-
-pub rest_true : (a b : Bool) → (a || b) ≡ true → a ≡ false → b ≡ true
-rest_true true b h e = cc
-rest_true false b h e = h
 
 -- ---- alignments
 

@@ -15,6 +15,7 @@ use Rattle.omos_model.specs.declared.fragment.Piece.{Piece}
 use Rattle.omos_model.specs.declared.mark.Landing.{Landing}
 use Rattle.omos_model.specs.declared.mark.Target.{Target}
 use Rattle.omos_model.specs.declared.refusal.Refusal.{Refusal}
+use Rattle.omos_model.proofs.Joined.{option_or_assoc}
 use Rattle.link_model.specs.Program.{Part, Parts, Reference, reference_of, references_in}
 use Rattle.link_model.specs.Module.{part_with}
 use Rattle.link_model.specs.Plan.{first_in, unresolved}
@@ -133,17 +134,12 @@ few-slots slots (x ∷ xs) (y ∷ ys) =
 
 -- ---- references
 
-or_assoc : {X : Type 0} (a b c : Option X)
-    → option_or (option_or a b) c ≡ option_or a (option_or b c)
-or_assoc None b c = refl
-or_assoc (Some x) b c = refl
-
 pub first_in-append : {X : Type 0} (f : X → Option Refusal) (xs ys : List X)
     → first_in f (xs ++ ys) ≡ option_or (first_in f xs) (first_in f ys)
 first_in-append f [] ys = refl
 first_in-append f (x ∷ xs) ys =
     ap (option_or (f x)) (first_in-append f xs ys)
-    ∙ sym (or_assoc (f x) (first_in f xs) (first_in f ys))
+    ∙ sym (option_or_assoc (f x) (first_in f xs) (first_in f ys))
 
 rows-refused : (n : ℕ) (xs : Rows)
     → first_in refusal_of (flat_map references_in (enumerate_from n (map part_with xs)))

@@ -10,6 +10,7 @@ use Rattle.std.proofs.lemmas.Bool.{and_parts}
 use Rattle.omos_model.specs.Names.{Name, same_name}
 use Rattle.omos_model.specs.NameLists.{is_among, least, IsLeast}
 use Rattle.omos_model.specs.declared.mark.Target.{Target}
+use Rattle.omos_model.proofs.Joined.{option_or_assoc}
 use Rattle.omos_model.proofs.Least.{least-IsLeast}
 use Rattle.omos_model.proofs.Names.{same_name-true, same_name-swap}
 use Rattle.omos_model.proofs.Written.{least_same}
@@ -63,14 +64,10 @@ held-last (e ∷ es) k t n = go (same_name n e.0) (held-last es k t n)
     go true h = refl
     go false h = h
 
-or_assoc : (a b c : Option Target) → option_or (option_or a b) c ≡ option_or a (option_or b c)
-or_assoc None b c = refl
-or_assoc (Some x) b c = refl
-
 pub moved_over : (es : List (Name × Target)) (k : Name) (t : Target) (n : Name) (o : Option Target)
     → option_or (held es n) (cond (same_name k n) (Some t) o) ≡ option_or (held (es ++ (k, t) ∷ []) n) o
 moved_over es k t n o =
-    rw (held-last es k t n, same_name-swap k n, put_first (same_name n k) t o) (sym (or_assoc (held es n) (cond (same_name n k) (Some t) None) o))
+    rw (held-last es k t n, same_name-swap k n, put_first (same_name n k) t o) (sym (option_or_assoc (held es n) (cond (same_name n k) (Some t) None) o))
 
 -- where at most one is there, the order does not count
 or_turned : (a b : Option Target) → (is_some a ≡ true → b ≡ None) → option_or a b ≡ option_or b a
@@ -89,7 +86,7 @@ pub missing_over : (es : List (Name × Target)) (k : Name) (t : Target) (n : Nam
     → option_or (option_or o (cond (same_name k n) (Some t) None)) (held es n) ≡ option_or o (held (es ++ (k, t) ∷ []) n)
 missing_over es k t n o h =
     rw (held-last es k t n, same_name-swap k n)
-    (or_assoc o (cond (same_name n k) (Some t) None) (held es n) ∙ ap (option_or o) (or_turned (cond (same_name n k) (Some t) None) (held es n) (only_there es k t n h)))
+    (option_or_assoc o (cond (same_name n k) (Some t) None) (held es n) ∙ ap (option_or o) (or_turned (cond (same_name n k) (Some t) None) (held es n) (only_there es k t n h)))
 
 -- ---- the names of a show, one after the other
 

@@ -13,7 +13,7 @@ use Rattle.omos_model.specs.Namespace.{Space, look_up, with_entry}
 use Rattle.omos_model.specs.declared.entry.Stamped.{Stamped}
 use Rattle.omos_model.proofs.Names.{is_eq-name_cmp}
 use Rattle.name_tree.specs.Order.{IsInOrder, place}
-use Rattle.name_tree.proofs.Orders.{Above, above-trans, paths}
+use Rattle.omos_model.proofs.Spaces.{Above, above-trans, paths}
 
 -- the order of two paths, turned
 turned : (p q : Name) (o : Ordering) → name_cmp p q ≡ o → name_cmp q p ≡ ordering_reverse o

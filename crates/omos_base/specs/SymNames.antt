@@ -1,5 +1,6 @@
 -- Names of symbols, as lists of bytes.
-use Rattle.std.specs.Prelude.{ℕ, ◌≢◌, ◌<◌, ◌≤◌, ◌⊎◌, List, All, length, slice_index, take}
+use Rattle.std.specs.Prelude.{ℕ, ◌≢◌, ◌<◌, ◌≤◌, ◌⊎◌, ◌==◌, nat_le, Bool, not, ◌&&◌, ◌||◌}
+use Rattle.std.specs.Prelude.{List, All, length, slice_index, take}
 use Rattle.std.specs.Int.{IsInRange}
 use Rattle.omos_base.specs.declared.sym_name.NameFault.{NameFault}
 use Rattle.omos_base.specs.declared.sym_name.NameFault.TheVariants.{Length, Byte}
@@ -9,6 +10,12 @@ abbrev pub IsNameByte : ℕ → Type 0
 IsNameByte byte =
     (IsInRange 0x21 0x7E byte ⊎ IsInRange 0x80 0xFF byte)
     × (byte ≢ 34) × (byte ≢ 40) × (byte ≢ 41) × (byte ≢ 59)
+
+-- the same as a test
+abbrev pub is_name_byte : ℕ → Bool
+is_name_byte b =
+    ((nat_le 33 b && nat_le b 126) || (nat_le 128 b && nat_le b 255))
+    && not (b == 34) && not (b == 40) && not (b == 41) && not (b == 59)
 
 -- a name has 1 to 1,024 bytes
 abbrev pub IsNameLength : ℕ → Type 0

@@ -20,4 +20,4 @@ pub use limits::Limits;
 pub use path_name::{PathFault, PathName};
 pub use row::Row;
 pub use shared::Shared;
-pub use sym_name::{NameFault, SymName};
+pub use sym_name::{NameFault, SymName, is_name_byte};

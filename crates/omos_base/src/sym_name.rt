@@ -10,7 +10,8 @@ ghost use Rattle.std.specs.Cmp.Lexicographic.{pointwise, slice_cmp};
 ghost use Rattle.std.specs.Cmp.Rules.{comparing, hashing};
 ghost use Rattle.std.specs.Ordering.{as_partial_cmp, nat_cmp};
 ghost use Rattle.omos_base.specs.Fault.{MatchFault};
-ghost use Rattle.omos_base.specs.SymNames.{IsNameByte, IsSymName, IsFirstBarred, HasNameFault};
+ghost use Rattle.omos_base.specs.SymNames.{IsNameByte, IsSymName, IsFirstBarred};
+ghost use Rattle.omos_base.specs.SymNames.{HasNameFault, is_name_byte};
 
 use crate::bytes::Bytes;
 use crate::fault::{Fault, NoMemory};
@@ -52,11 +53,12 @@ impl Model for SymName {
     ghost invariant = { λ name. IsSymName name.bytes };
 }
 
-/// Whether a name may have the byte.
-fn is_name_byte(byte: u8) -> bool
-    ensures { IsTrue result ↔ IsNameByte byte }
+/// Whether a name may have the byte: letters are tried first.
+pub fn is_name_byte(byte: u8) -> bool
+    ensures name { IsTrue result ↔ IsNameByte byte }
+    ensures test { result ≡ is_name_byte byte }
 {
-    matches!(byte, 0x21..=0x7e | 0x80..=0xff) && !matches!(byte, b'"' | b'(' | b')' | b';')
+    matches!(byte, b'<'..=b'~' | 0x80..=0xff | b'*'..=b':' | b'#'..=b'\'' | b'!')
 }
 
 /// The place of the first byte that a name may not have.

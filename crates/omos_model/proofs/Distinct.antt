@@ -41,7 +41,3 @@ pub is_new : (e : Export) (rest : List Export) (key : Name) (old : Bool) → key
     → are_distinct rest ≡ true → are_distinct (e ∷ rest) ≡ true
 is_new e rest key old same before h apart =
     rw (sym (ap (is_exported rest) same) ∙ sym before ∙ h) apart
-
-pub not_not : (a b : Bool) → not a ≡ b → a ≡ not b
-not_not true b h = ap not h
-not_not false b h = ap not h

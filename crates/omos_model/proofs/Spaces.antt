@@ -17,6 +17,7 @@ use Rattle.omos_model.specs.Laws.{LastPutLaw, OrderLaw, NextVersionLaw, OldVersi
 use Rattle.omos_model.specs.Namespace.{Space, look_up, with_entry, stamped_from}
 use Rattle.omos_model.specs.declared.entry.Entry.{Entry}
 use Rattle.omos_model.specs.declared.entry.Stamped.{Stamped}
+use Rattle.omos_model.proofs.Joined.{option_or_None}
 use Rattle.omos_model.proofs.Names.{same_name-true, same_name-refl, is_eq-name_cmp}
 
 -- the later of two that are looked for, where they aren't the same
@@ -46,10 +47,6 @@ look_up-with_entry (x ∷ xs) s p = go (name_cmp s.path x.path) refl (look_up-wi
         ∙ swapped (same_name p x.path) (same_name p s.path) x s (look_up xs p)
         (λ a b. true≢false (sym (same_name-refl s.path x.path (sym (same_name-true p s.path b) ∙ same_name-true p x.path a)) ∙ sym (is_eq-name_cmp s.path x.path) ∙ ap is_eq e))
 
-option_or_None : {X : Type 0} (o : Option X) → option_or o None ≡ o
-option_or_None None = refl
-option_or_None (Some x) = refl
-
 option_or_find : {X : Type 0} (f o : Option X) (b : Bool) (x : X)
     → option_or f (cond b (Some x) o) ≡ option_or (option_or f (cond b (Some x) None)) o
 option_or_find (Some y) o b x = refl
@@ -74,13 +71,14 @@ last_put_law puts v p = after_all (stamped_from 1 (take v puts)) [] p ∙ option
 
 -- ---- the order of paths
 
-abbrev paths : Space → List Name
+abbrev pub paths : Space → List Name
 paths ns = map (λ s. s.path) ns
 
-abbrev Above : Name → List Name → Type 0
+-- the path is below all of these
+abbrev pub Above : Name → List Name → Type 0
 Above p ps = AllByRecursion (λ q. name_cmp p q ≡ Less) ps
 
-above-trans : (p q : Name) (ps : List Name) → name_cmp p q ≡ Less → Above q ps → Above p ps
+pub above-trans : (p q : Name) (ps : List Name) → name_cmp p q ≡ Less → Above q ps → Above p ps
 above-trans p q [] e h = tt
 above-trans p q (x ∷ xs) e h = (nat_list_cmp_total.trans p q x e h.0, above-trans p q xs e h.1)
 
@@ -95,7 +93,7 @@ above-with_entry p (x ∷ xs) s e h = go (name_cmp s.path x.path) (above-with_en
     go Equal i = (e, h.1)
     go Greater i = (h.0, i)
 
-IsStrictlySortedBy-with_entry : (ns : Space) (s : Stamped) → IsStrictlySortedBy name_cmp (paths ns)
+pub IsStrictlySortedBy-with_entry : (ns : Space) (s : Stamped) → IsStrictlySortedBy name_cmp (paths ns)
     → IsStrictlySortedBy name_cmp (paths (with_entry ns s))
 unfolding IsStrictlySortedBy
 IsStrictlySortedBy-with_entry [] s h = (tt, tt)

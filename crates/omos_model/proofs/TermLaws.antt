@@ -16,6 +16,7 @@ use Rattle.omos_model.specs.State.{mark_at}
 use Rattle.omos_model.specs.FirstRefusal.{both_define}
 use Rattle.omos_model.specs.Laws.{HideLaw, MergeLaw, OverrideLaw, StatesLaw, RowsLaw, has_leaf}
 use Rattle.omos_model.specs.Laws.{are_apart, restrict_each, shared}
+use Rattle.omos_model.proofs.Joined.{option_or_None, option_or_assoc}
 use Rattle.omos_model.proofs.Names.{same_name-true, same_name-swap}
 use Rattle.omos_model.specs.declared.refusal.Site.{Site}
 use Rattle.omos_model.specs.declared.mark.Target.{Target}
@@ -182,15 +183,6 @@ override_law s q p l r apart = record {
 }
 
 -- ---- the list of all references
-
-option_or_None : {X : Type 0} (o : Option X) → option_or o None ≡ o
-option_or_None None = refl
-option_or_None (Some x) = refl
-
-option_or_assoc : {X : Type 0} (a b c : Option X)
-    → option_or (option_or a b) c ≡ option_or a (option_or b c)
-option_or_assoc None b c = refl
-option_or_assoc (Some x) b c = refl
 
 in_rows-append : (xs ys : List MarkRow) (leaf k : ℕ)
     → in_rows (xs ++ ys) leaf k ≡ option_or (in_rows xs leaf k) (in_rows ys leaf k)

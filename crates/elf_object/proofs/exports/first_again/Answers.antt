@@ -3,7 +3,8 @@ use Rattle.std.specs.Prelude.{nat_eq}
 use Rattle.std.specs.Cmp.Lexicographic.{pointwise}
 use Rattle.std.specs.HashSet.{contains}
 use Rattle.omos_model.specs.ElfFaults.{is_again}
-use Rattle.elf_object.proofs.DefinedBelow.{again_as, never_again, with_export, without_export, not_not}
+use Rattle.elf_object.proofs.DefinedBelow.{again_as, never_again, with_export, without_export}
+use Rattle.omos_model.proofs.Joined.{not_not}
 use Rattle.elf_object.proofs.Runs.{find_here, find_next}
 use Rattle.elf_object.proofs.exports.first_again.Goals as goal
 use Rattle.elf_object.proofs.exports.first_again.Goals.{in-Some+in_ok-insert+else-not-branch, in_default}

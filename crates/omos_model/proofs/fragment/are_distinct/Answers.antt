@@ -3,7 +3,8 @@ use Rattle.std.proofs.Math.Seq.{drop-cons}
 use Rattle.std.specs.BTreeSet.{contains}
 use Rattle.omos_model.specs.Names.{name_cmp}
 use Rattle.omos_model.specs.FragmentParts.{is_exported, are_distinct}
-use Rattle.omos_model.proofs.Distinct.{are_distinct-drop, with_name, has_again, is_new, not_not}
+use Rattle.omos_model.proofs.Distinct.{are_distinct-drop, with_name, has_again, is_new}
+use Rattle.omos_model.proofs.Joined.{not_not}
 use Rattle.omos_model.proofs.fragment.are_distinct.Goals as goal
 
 pub returns-then-not-branch : goal.returns-then-not-branch
