@@ -3,3 +3,4 @@ pub mod Founds
 pub mod Alone
 pub mod Frame
 pub mod Footprints
+pub mod Stamps

@@ -1,10 +1,12 @@
 -- Laws of evaluated modules.
-use Rattle.std.specs.Prelude.{◌≡◌, ◌≤◌, ℕ, List, Some, length}
+use Rattle.std.specs.Prelude.{◌≡◌, ◌≤◌, ℕ, List, Option, Some, length}
 use Rattle.std.specs.List.{AllByRecursion, sum_by}
+use Rattle.std.specs.Option.{option_map}
 use Rattle.omos_model.specs.Names.{Name}
-use Rattle.omos_model.specs.Namespace.{Space, look_up}
+use Rattle.omos_model.specs.Namespace.{Space, look_up, namespace_at}
 use Rattle.omos_model.specs.Expansion.{expansion, max_leaves, max_sum}
 use Rattle.omos_model.specs.Footprint.{footprint}
+use Rattle.omos_model.specs.declared.entry.Entry.{Entry}
 use Rattle.omos_model.specs.declared.entry.Stamped.{Stamped}
 use Rattle.link_model.specs.Answer.{answer}
 use Rattle.link_model.specs.Module.{Module, IsModule, plan_of_module}
@@ -46,3 +48,26 @@ abbrev pub OwnFrameLaw : Type 0
 OwnFrameLaw =
     (ns : Space) (path : Name) (entries : List Stamped) → footprint ns path ≡ Some entries
     → SameLink path ns entries
+
+-- ---- in one history of publishes
+
+-- a stamp is of one entry, whatever the versions and paths under which it is found
+abbrev pub StampLaw : Type 0
+StampLaw =
+    (puts : List (Name × Entry)) (v w : ℕ) (p q : Name) (x y : Stamped)
+    → look_up (namespace_at puts v) p ≡ Some x → look_up (namespace_at puts w) q ≡ Some y
+    → x.stamp ≡ y.stamp → x ≡ y
+
+abbrev pub stamp_at : Space → Name → Option ℕ
+stamp_at ns path = option_map (λ s. s.stamp) (look_up ns path)
+
+-- the stamps of these entries are the stamps there
+abbrev pub IsCurrent : Space → List Stamped → Type 0
+IsCurrent ns entries = AllByRecursion (λ s. stamp_at ns s.path ≡ Some s.stamp) entries
+
+-- while the stamps of its footprint stand, a path is the same on a later version
+abbrev pub CurrentLaw : Type 0
+CurrentLaw =
+    (puts : List (Name × Entry)) (v w : ℕ) (path : Name) (entries : List Stamped)
+    → footprint (namespace_at puts v) path ≡ Some entries → IsCurrent (namespace_at puts w) entries
+    → SameLink path (namespace_at puts v) (namespace_at puts w)

@@ -1,6 +1,7 @@
 //! Laws of evaluated modules, each the contract of a function that does nothing.
 
 ghost use Rattle.link_model.specs.Laws.{BoundsLaw, OwnPlanLaw, FrameLaw, OwnFrameLaw};
+ghost use Rattle.link_model.specs.Laws.{StampLaw, CurrentLaw};
 
 /// A module has at most 256 leaves, and at most 524,288 references.
 pub fn modules_are_bounded()
@@ -17,4 +18,11 @@ pub fn modules_have_their_plan()
 pub fn footprints_decide()
     ensures frame { FrameLaw }
     ensures own { OwnFrameLaw }
+{}
+
+/// In one history of publishes a stamp is of one entry: while the stamps under the paths that it
+/// reads stand, a path is the same on a later version.
+pub fn stamps_decide()
+    ensures stamp { StampLaw }
+    ensures current { CurrentLaw }
 {}

@@ -29,16 +29,16 @@ fn lone_path() -> PathName
 }
 
 /// The answer for a module's path, on the namespace that its footprint lists.
-fn link(alloc: Global, module: &Evaluated) -> Result<Bytes, Fault<Refusal>>
-    ensures { let m = module.now in MatchFault result
+fn link(alloc: Global, evaluated: &Evaluated) -> Result<Bytes, Fault<Refusal>>
+    ensures { let m = evaluated.now in MatchFault result
         (λ image. answer m.footprint m.path lone_base ≡ Ok image)
         (λ x. answer m.footprint m.path lone_base ≡ Err x) }
 {
     // What the plan's law asks is what the module keeps.
-    let _path = module.path();
+    let _path = evaluated.path();
     laws::modules_have_their_plan();
-    match lay(alloc, module) {
-        Ok(layout) => write(alloc, module, &layout, BASE),
+    match lay(alloc, evaluated) {
+        Ok(layout) => write(alloc, evaluated, &layout, BASE),
         Err(fault) => Err(fault),
     }
 }
