@@ -3,7 +3,6 @@
 ghost use Rattle.std.specs.Prelude.{◌≡◌, None, IfOk, Ok, Err};
 ghost use Rattle.omos_base.specs.Fault.{MatchFault};
 ghost use Rattle.omos_model.specs.FragmentOf.{fragment_of, parts_of_file};
-ghost use Rattle.omos_model.specs.FragmentParts.{IsFragment, parts_of};
 ghost use Rattle.omos_model.specs.ElfFaults.{object_fault};
 
 use crate::exports::exports;
@@ -12,26 +11,9 @@ use crate::names::names;
 use crate::numbers::{kept_count, piece_numbers};
 use crate::pieces::pieces;
 use elf_object::{Tables, read_tables};
-use omos_base::{Fault, NoMemory, Row};
-use omos_model::{Export, Fixup, Fragment, ObjectFault, Piece, laws};
+use omos_base::{Fault, NoMemory};
+use omos_model::{Fragment, ObjectFault, laws};
 use std::alloc::Global;
-
-/// The fragment of three lists that are one.
-fn lawful(
-    alloc: Global,
-    pieces: Row<Piece>,
-    exports: Row<Export>,
-    fixups: Row<Fixup>,
-) -> Result<Fragment, NoMemory>
-    requires { IsFragment (parts_of pieces exports fixups) }
-    ensures { IfOk result (λ f. f ≡ parts_of pieces exports fixups) }
-{
-    match Fragment::of(alloc, pieces, exports, fixups) {
-        Ok(fragment) => Ok(fragment),
-        Err(Fault::NoMemory) => Err(NoMemory),
-        Err(Fault::Refused(_)) => unreachable!(),
-    }
-}
 
 fn parts_of_file(alloc: Global, tables: &Tables<'_>) -> Result<Fragment, NoMemory>
     requires { object_fault tables.now ≡ None }
@@ -50,7 +32,7 @@ fn parts_of_file(alloc: Global, tables: &Tables<'_>) -> Result<Fragment, NoMemor
     )?;
     let fixups = fixups(alloc, tables, numbers.as_slice(), names.as_slice())?;
     laws::files_hold_fragments();
-    lawful(alloc, pieces, exports, fixups)
+    Ok(Fragment::from_parts(pieces, exports, fixups))
 }
 
 /// The fragment of an object file, or its first fault, O1 to O11.

@@ -1,6 +1,7 @@
 -- What a blueprint makes of two objects.
 use Rattle.std.specs.Prelude.{◌≡◌, ℕ, List, Result, Ok, Err}
 use Rattle.omos_model.specs.FragmentOf.{fragment_of}
+use Rattle.omos_model.specs.Names.{Name}
 use Rattle.omos_model.specs.declared.entry.Entry.{Entry}
 use Rattle.omos_model.specs.declared.refusal.Refusal.{Refusal}
 use Rattle.bp_tree.specs.TextFaults.{IsTextFault}
@@ -11,6 +12,13 @@ use Rattle.link_example.specs.declared.failure.Failure.{Failure}
 use Rattle.link_example.specs.declared.failure.Failure.TheVariants.{First, Second, Text, Link}
 use Rattle.link_example.specs.declared.published.Published.{Published}
 
+-- the entry under the path that was given
+abbrev pub put : Published → Entry → Name × Entry
+put p entry = (p.path.now, entry)
+
+abbrev pub base : ℕ
+base = 4194304
+
 -- what is published is all right, and the answer for the blueprint's path at 0x400000 is this
 pub record IsAnswered (a b c : Published) (result : Result (List ℕ) Refusal) : Type 0 where
   pub first : Entry
@@ -19,7 +27,8 @@ pub record IsAnswered (a b c : Published) (result : Result (List ℕ) Refusal) :
   pub is_first : IsObject a.content.now first
   pub is_second : IsObject b.content.now second
   pub is_blueprint : IsBlueprint c.content.now blueprint
-  pub answered : answer (namespace_of (a.path.now, first) (b.path.now, second) (c.path.now, blueprint)) c.path.now 4194304 ≡ result
+  pub answered : answer (namespace_of (put a first) (put b second) (put c blueprint)) c.path.now base
+      ≡ result
 
 -- the image is the answer
 abbrev pub IsImageOf : Published → Published → Published → LinkedImage → Type 0
@@ -28,7 +37,8 @@ IsImageOf a b c x = IsAnswered a b c (Ok x.bytes)
 -- the first of what is wrong
 abbrev pub HasFailure : Published → Published → Published → Failure → Type 0
 HasFailure a b c (First x) = fragment_of a.content.now ≡ Err x
-HasFailure a b c (Second x) = (e : Entry) × IsObject a.content.now e × (fragment_of b.content.now ≡ Err x)
+HasFailure a b c (Second x) =
+    (e : Entry) × IsObject a.content.now e × (fragment_of b.content.now ≡ Err x)
 HasFailure a b c (Text x) =
     (d : Entry) × (e : Entry) × IsObject a.content.now d × IsObject b.content.now e
     × IsTextFault c.content.now x

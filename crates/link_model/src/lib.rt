@@ -19,4 +19,4 @@ pub use layout::Layout;
 pub use linked::Linked;
 pub use made::usual_start;
 pub use planned::Planned;
-pub use share::{share_entries, share_entry};
+pub use share::share_entries;

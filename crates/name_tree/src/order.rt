@@ -67,22 +67,11 @@ pub fn find<'a>(list: &'a [Stamped], path: &PathName) -> Option<&'a Stamped>
     first_at(rest, path)
 }
 
-/// A second owner of the entry, with its path and stamp.
-fn twin(stamped: &Stamped) -> Result<Stamped, NoMemory>
-    ensures { IfOk result (λ s. s ≡ stamped.now) }
-{
-    Ok(Stamped {
-        path: stamped.path.copy(),
-        stamp: stamped.stamp,
-        entry: stamped.entry.twin()?,
-    })
-}
-
 fn append(list: &mut Row<Stamped>, more: &[Stamped]) -> Result<(), NoMemory>
     ensures { OnOk result (list.new ≡ list.old ++ more.now) }
 {
     for stamped in more {
-        list.push(twin(stamped)?)?;
+        list.push(stamped.twin()?)?;
     }
     Ok(())
 }

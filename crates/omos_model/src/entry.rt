@@ -1,11 +1,11 @@
 //! What stands under a path of the namespace.
 
-ghost use Rattle.std.specs.Prelude.{◌≡◌};
+ghost use Rattle.std.specs.Prelude.{◌≡◌, IfOk};
 ghost use Rattle.omos_model.specs.ImageParts.{IsImage, image_of};
 
 use crate::expr::Expr;
 use crate::fragment::Fragment;
-use omos_base::{PathName, Shared, SymName};
+use omos_base::{NoMemory, PathName, Shared, SymName};
 use std::marker::Model;
 
 /// Where a program starts.
@@ -100,4 +100,17 @@ pub struct Stamped {
     pub path: PathName,
     pub stamp: u64,
     pub entry: Shared<Entry>,
+}
+
+impl Stamped {
+    /// A second owner of the entry, with its path and stamp. Neither is copied.
+    pub fn twin(&self) -> Result<Stamped, NoMemory>
+        ensures { IfOk result (λ s. s ≡ self.now) }
+    {
+        Ok(Stamped {
+            path: self.path.copy(),
+            stamp: self.stamp,
+            entry: self.entry.twin()?,
+        })
+    }
 }

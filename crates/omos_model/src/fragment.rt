@@ -130,11 +130,19 @@ impl Fragment {
         if !are_distinct(alloc, exports.as_slice())? {
             return Err(Fault::Refused(FragmentFault::Shape));
         }
-        Ok(Fragment {
+        Ok(Fragment::from_parts(pieces, exports, fixups))
+    }
+
+    /// The fragment of three lists that are one. It takes no memory, and looks at none of them.
+    pub fn from_parts(pieces: Row<Piece>, exports: Row<Export>, fixups: Row<Fixup>) -> Fragment
+        requires { IsFragment (parts_of pieces exports fixups) }
+        ensures { result ≡ parts_of pieces exports fixups }
+    {
+        Fragment {
             pieces,
             exports,
             fixups,
-        })
+        }
     }
 
     /// The pieces, in order.

@@ -7,8 +7,8 @@ use Rattle.omos_model.specs.FragmentOf.{exports_of, parts_of_file, pieces_of}
 use Rattle.fragment_read.proofs.Whole.{lawful}
 use Rattle.fragment_read.proofs.read.parts_of_file.Goals as goal
 
-pub lawful-requires : goal.lawful-requires
-lawful-requires c =
+pub from_parts-requires : goal.from_parts-requires
+from_parts-requires c =
     let file = c.args.tables.now in
     let whole : parts_of c.in_ok-pieces.pieces c.in_ok-exports.exports c.in_ok-fixups.fixups ≡ parts_of_file file =
     ap (λ (ps : List Piece). parts_of ps c.in_ok-exports.exports c.in_ok-fixups.fixups) c.in_ok-pieces.ensures
