@@ -4,7 +4,6 @@ ghost use Rattle.std.specs.Prelude.{◌≡◌, [], ◌∷◌, ◌++◌, IfOk, On
 ghost use Rattle.std.specs.List.{filter_map};
 ghost use Rattle.omos_model.specs.Namespace.{look_up};
 
-use link_model::share_entry;
 use name_tree::Snap;
 use omos_base::{NoMemory, PathName, Row};
 use omos_model::Stamped;
@@ -18,7 +17,7 @@ fn add(entries: &mut Row<Stamped>, snap: &Snap, path: &PathName) -> Result<(), N
     let Some(stamped) = snap.get(path) else {
         return Ok(());
     };
-    entries.push(share_entry(stamped)?)?;
+    entries.push(stamped.twin()?)?;
     Ok(())
 }
 

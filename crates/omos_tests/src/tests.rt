@@ -2,6 +2,7 @@
 
 mod fragments;
 mod lines;
+mod linking;
 mod names;
 mod plain;
 
