@@ -1,5 +1,5 @@
 #!/usr/bin/env python3
-"""Compares how blueprints' texts are read and written with a slow reader of the grammar, on many texts.
+"""Compares how blueprints' texts are read and written with a slow reader of the grammar.
 
     tests/texts.py LINK_CASES [COUNT]
     tests/texts.py --rows
