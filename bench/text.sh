@@ -1,33 +1,34 @@
 #!/usr/bin/env bash
-# Counts, by callgrind, the instructions of reading and of writing a blueprint's text of 65,536 bytes,
-# with 64 parentheses inside one another and as one merge, and for half of it. Each text is compared
-# with the one that is written of what was read.
+# Counts, by callgrind, the instructions inside the calls that read and write a blueprint's text of
+# 65,536 bytes, with 64 parentheses inside one another and as one merge, and for half of it. Each
+# text is compared with the one that is written of what was read.
 #
 #   usage: bench/text.sh LINK_CASES
 set -eu
 . "$(dirname "$0")/counts.sh"
 
-costs() { # SHAPE BYTES: what reading the text takes, and what writing it
-    local idle read print
-    python3 "$here/bench/texts.py" "$@"
-    cp check.txt cases.txt
-    "$cases" > output
-    grep -q '^ok' output
-    idle=$(instructions idle.txt) || exit 1
-    read=$(instructions read.txt) || exit 1
-    print=$(instructions print.txt) || exit 1
-    # print.txt reads the text once more than read.txt, and writes it twice
-    echo $((read - idle)) $(((print - 2 * read + idle) / 2))
+inside() { # FUNCTION: the instructions of one of its two calls in a case
+    local count
+    count=$(collected "--toggle-collect=$1" "$cases")
+    grep -q '^ok' output && [ "$count" -gt 0 ] || {
+        echo "bench: $1 in $count instructions, $(head -c 200 output)" >&2
+        exit 1
+    }
+    echo $((count / 2))
 }
 
-tell() { # SHAPE WHAT-IT-IS
+costs() { # FUNCTION SHAPE: instructions a byte, and how many times as many twice the input takes
     local half whole
-    half=$(costs "$1" 32768) || exit 1
-    whole=$(costs "$1" 65536) || exit 1
-    read -r read_half print_half <<< "$half"
-    read -r read_whole print_whole <<< "$whole"
-    echo "$2: $((read_whole / 65536)) instructions a byte to read, twice the input takes $(ratio "$read_half" "$read_whole") times as many; $((print_whole / 65536)) to write, $(ratio "$print_half" "$print_whole") times"
+    python3 "$here/bench/texts.py" "$2" 32768
+    half=$(inside "$1") || exit 1
+    python3 "$here/bench/texts.py" "$2" 65536
+    whole=$(inside "$1") || exit 1
+    echo "$((whole / 65536)) instructions a byte, for twice the input $(ratio "$half" "$whole") times as many"
 }
 
-tell deep "64 parentheses in 65,536 bytes"
-tell wide "a merge of 65,536 bytes"
+for shape in deep wide; do
+    read=$(costs 'bp_tree::parser::parse*' $shape)
+    written=$(costs 'bp_tree::printer::print*' $shape)
+    echo "a $shape text of 65,536 bytes: read in $read"
+    echo "a $shape text of 65,536 bytes: written in $written"
+done

@@ -1,17 +1,13 @@
 #!/usr/bin/env python3
-"""Writes tables of one case of link_cases into the current folder, for bench/text.sh, over a
-canonical text of so many bytes.
+"""Writes a table of one case of link_cases into the current folder, for bench/text.sh: a canonical
+text of so many bytes, which is read, written, read back and written again.
 
     bench/texts.py deep BYTES     64 parentheses inside one another, with paths in each
     bench/texts.py wide BYTES     a merge of paths
-
-check.txt wants the text itself. idle.txt has a text as long that is refused at its second byte;
-read.txt has it read, print.txt also printed, read and printed again.
 """
 
 import sys
 from pathlib import Path
-
 
 DEPTHS = {"deep": 62, "wide": 0}  # merges inside that of the image
 
@@ -26,14 +22,7 @@ def text_of(depth, size):
 
 def main():
     text = text_of(DEPTHS[sys.argv[1]], int(sys.argv[2]))
-    rows = {
-        "check": f"{text} | text /m | text {text}",
-        "idle": f'("{text[2:]} | list | line refused B2 1',
-        "read": f"{text} | list | text /m 1\\n",
-        "print": f"{text} | text /m | size {len(text)}",
-    }
-    for name, row in rows.items():
-        Path(name + ".txt").write_text(f"{name} | /m {row}\n")
+    Path("cases.txt").write_text(f"{sys.argv[1]} | /m {text} | text /m | text {text}\n")
 
 
 main()
