@@ -1,7 +1,7 @@
 #!/usr/bin/env bash
 # Counts, by callgrind, the instructions inside the calls that read and write a blueprint's text of
-# 65,536 bytes, with 64 parentheses inside one another and as one merge, and for half of it. Each
-# text is compared with the one that is written of what was read.
+# 65,536 bytes: deep, with 64 parentheses inside one another; wide, one merge of paths; and a show of
+# names; and for half of each. Each text is compared with the one that is written of what was read.
 #
 #   usage: bench/text.sh LINK_CASES
 set -eu
@@ -23,12 +23,16 @@ costs() { # FUNCTION SHAPE: instructions a byte, and how many times as many twic
     half=$(inside "$1") || exit 1
     python3 "$here/bench/texts.py" "$2" 65536
     whole=$(inside "$1") || exit 1
-    echo "$((whole / 65536)) instructions a byte, for twice the input $(ratio "$half" "$whole") times as many"
+    echo "$((whole / 65536)) instructions a byte, $(ratio "$half" "$whole") times as many for twice the input"
 }
 
-for shape in deep wide; do
-    read=$(costs 'bp_tree::parser::parse*' $shape)
-    written=$(costs 'bp_tree::printer::print*' $shape)
-    echo "a $shape text of 65,536 bytes: read in $read"
-    echo "a $shape text of 65,536 bytes: written in $written"
-done
+tell() { # SHAPE WHAT-IT-IS
+    local read written
+    read=$(costs 'bp_tree::parser::parse*' "$1")
+    written=$(costs 'bp_tree::printer::print*' "$1")
+    echo "$2: read in $read; written in $written"
+}
+
+tell deep "64 parentheses in 65,536 bytes"
+tell wide "a merge of 65,536 bytes"
+tell names "65,536 bytes of names"

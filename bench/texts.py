@@ -4,15 +4,14 @@ text of so many bytes, which is read, written, read back and written again.
 
     bench/texts.py deep BYTES     64 parentheses inside one another, with paths in each
     bench/texts.py wide BYTES     a merge of paths
+    bench/texts.py names BYTES    a show of names
 """
 
 import sys
 from pathlib import Path
 
-DEPTHS = {"deep": 62, "wide": 0}  # merges inside that of the image
-
-
-def text_of(depth, size):
+def merges(depth, size):
+    """A merge of paths, with so many merges inside one another as its first operand."""
     count = size // 3 // (depth + 1) - 4  # paths in each inner merge
     inner = f"(merge{' /a' * count} " * depth + "/a" + ")" * depth
     room = size - len(f"(image (merge {inner} /))")
@@ -20,9 +19,16 @@ def text_of(depth, size):
     return f"(image (merge {inner}{' /a' * more} /{'b' * (room - 3 * more)}))"
 
 
+def names(size):
+    room = size - len("(image (show (a) /))")
+    more = (room - 1) // 2
+    return f"(image (show (a{' a' * more}) /{'b' * (room - 2 * more)}))"
+
+
 def main():
-    text = text_of(DEPTHS[sys.argv[1]], int(sys.argv[2]))
-    Path("cases.txt").write_text(f"{sys.argv[1]} | /m {text} | text /m | text {text}\n")
+    shape, size = sys.argv[1], int(sys.argv[2])
+    text = names(size) if shape == "names" else merges({"deep": 62, "wide": 0}[shape], size)
+    Path("cases.txt").write_text(f"{shape} | /m {text} | text /m | text {text}\n")
 
 
 main()
