@@ -1,7 +1,7 @@
 #!/usr/bin/env bash
 # Counts, by callgrind, the instructions inside the calls that read and write a blueprint's text of
-# 65,536 bytes: deep, with 64 parentheses inside one another; wide, one merge of paths; and a show of
-# names; and for half of each. Each text is compared with the one that is written of what was read.
+# 65,536 bytes: with 64 parentheses inside one another, one merge of paths, and a show of names; and
+# for half of each. Each text is compared with the one that is written of what was read.
 #
 #   usage: bench/text.sh LINK_CASES
 set -eu

@@ -312,8 +312,8 @@ def main():
     rows = [row(number, term) for number, term in enumerate(terms(count))]
     table.run(sys.argv[1], rows)
     kinds = [line.split("| line refused ")[1].split()[0] for line in rows if "| line " in line]
-    refusals = ", ".join(f"{kinds.count(kind)} {kind}" for kind in sorted(set(kinds), key=len))
-    print(f"{len(rows)} blueprints agree; {len(rows) - len(kinds)} are linked, refused {refusals}")
+    refusals = ", ".join(f"{kinds.count(kind)} {kind}" for kind in ("L5", "L6", "L7", "L8", "L11"))
+    print(f"{len(rows)} blueprints agree, {len(rows) - len(kinds)} of them linked; refused {refusals}")
 
 
 if __name__ == "__main__":

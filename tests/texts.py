@@ -201,7 +201,8 @@ def image(random_):
     size = random_.choice([0, 1, 2, 3, 5, 8])
     if random_.randrange(10) == 0:
         deep = random_.randrange(55, 66)
-        return tokens + [b"(", b"hide", b"a"] * deep + expression(random_, size) + [b")"] * (deep + 1)
+        tokens += [b"(", b"hide", b"a"] * deep
+        return [*tokens, *expression(random_, size), *[b")"] * (deep + 1)]
     return [*tokens, *expression(random_, size), b")"]
 
 
@@ -270,10 +271,10 @@ def main():
         return
     count = int(sys.argv[2]) if len(sys.argv) > 2 else 4000
     rows = [row(number, text) for number, text in enumerate(texts(count))]
-    refused = [line.split()[-2] if "| line refused B" in line else "" for line in rows]
     table.run(sys.argv[1], rows)
-    kinds = ", ".join(f"{refused.count(kind)} {kind}" for kind in ("B2", "B3", "B4", "B5", "B6"))
-    print(f"{len(rows)} texts agree; of the refused {kinds}")
+    kinds = [line.split()[-2] for line in rows if "| line refused B" in line]
+    refusals = ", ".join(f"{kinds.count(kind)} {kind}" for kind in ("B2", "B3", "B4", "B5", "B6"))
+    print(f"{len(rows)} texts agree, {len(rows) - len(kinds)} of them images; refused {refusals}")
 
 
 main()

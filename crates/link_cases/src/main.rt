@@ -1,9 +1,9 @@
 //! Runs the table of cases in data/cases.txt: each publishes objects and blueprints on a version of
-//! the namespace, asks for something there, and compares the answer with what is wanted. It prints a
-//! line a case: `ok NAME`, or `NAME: wanted .. got ..`.
+//! the namespace, asks for something there, and compares the answer with what is wanted. A line a
+//! case is printed: `ok NAME`, or `NAME: wanted .. got ..`.
 //!
 //! The wanted bytes, texts and refusals were worked out by hand from the rules of docs/FORMATS.md,
-//! or, behind the further headings of the table, by scripts of tests/ that know nothing of this
+//! or, under the headings of the table that say so, by scripts of tests/ that know nothing of this
 //! program.
 #![tactic(auto)]
 
