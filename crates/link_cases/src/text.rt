@@ -3,7 +3,7 @@
 use anyhow::{Result, bail};
 use bp_tree::{parse, print};
 use name_tree::Snap;
-use omos_base::{Bytes, PathName};
+use omos_base::{Bytes, Fault, PathName};
 use omos_model::{Entry, Image};
 use std::alloc::Global;
 
@@ -11,7 +11,8 @@ use std::alloc::Global;
 fn is_canonical(alloc: Global, text: &[u8]) -> Result<bool> {
     match parse(alloc, text) {
         Ok(image) => Ok(print(alloc, &image)?.as_slice() == text),
-        Err(_) => Ok(false),
+        Err(Fault::Refused(_)) => Ok(false),
+        Err(Fault::NoMemory) => bail!("no memory"),
     }
 }
 
