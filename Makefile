@@ -12,7 +12,8 @@ help:
 	@echo "make demo    links the examples with it, runs the images and shows what one prints"
 	@echo "make examples  the same, and compares what each prints"
 	@echo "make real    compares what is kept of compilers' objects with readelf, and runs with ld's"
-	@echo "make sweep   compares links of some 5,000 blueprints with plain descent through names"
+	@echo "make sweep   compares links of some 8,000 blueprints with plain descent through names,"
+	@echo "             and 4,000 texts with a slow reader of the grammar"
 	@echo "make bench   times it beside other linkers, and counts instructions"
 	@echo "rt ci        proves and tests everything: the test command"
 
@@ -43,12 +44,14 @@ links:
 
 sweep: links
 	@tests/sweep.py $(LINK_CASES)
+	@tests/texts.py $(LINK_CASES)
 
 bench: build links
 	@bench/once.sh $(OMOSD)
 	@bench/objects.sh $(OMOSD)
 	@bench/operators.sh $(LINK_CASES)
 	@bench/evaluate.sh $(LINK_CASES)
+	@bench/text.sh $(LINK_CASES)
 
 clean:
 	rm -rf crates/*/out

@@ -6,23 +6,20 @@
 
 It makes blueprints over the small objects of crates/link_cases/data: every expression of one
 operator, every one of two over some of the objects, and COUNT random ones of up to six operators
-(2,000 where left out; the same each time). What each must answer is worked out here by plain
-recursion on the expression: what a name is defined as and what a reference is, looked up anew at
-each use. The proved program LINK_CASES then links them all and says which answers differ.
+(5,000 where left out; the same each time), whose names mostly suit what is there. What each must
+answer is worked out here by plain recursion on the expression: what a name is defined as and what
+a reference is, looked up anew at each use. The proved program LINK_CASES then links them all and
+says which answers differ.
 
-With --rows it writes some of them, 200 that are linked and each 40th that is refused, behind the
-other cases of crates/link_cases/data/cases.txt, and what the program is to print.
+With --rows it writes each 12th that is linked and each 40th that is refused behind the other cases
+of crates/link_cases/data/cases.txt, and what the program is to print.
 """
 
 import itertools
 import random
-import shutil
-import subprocess
 import sys
-import tempfile
-from pathlib import Path
 
-HERE = Path(__file__).resolve().parent.parent / "crates" / "link_cases" / "data"
+import table
 
 # size, alignment, exports, and the references of calls: field offset and name
 OBJECTS = {
@@ -219,17 +216,50 @@ def rebuilt(term):
     return One(term.word, term.words, rebuilt(term.inner))
 
 
-def some(random_, depth):
-    if depth == 0:
+def some(random_, size):
+    """A random expression of so many operators, whose names mostly suit what is there."""
+    if size == 0:
         return Leaf(random_.choice(list(OBJECTS)))
     if random_.random() < 0.4:
-        left = random_.randrange(depth)
-        return Pair(
-            random_.choice(["merge", "override"]), some(random_, left), some(random_, depth - 1 - left)
-        )
+        left = random_.randrange(size)
+        return pair(random_, some(random_, left), some(random_, size - 1 - left))
+    return one(random_, some(random_, size - 1))
+
+
+def pair(random_, left, right):
+    """Two expressions joined: mostly by an override where a merge would be refused."""
+    term = Pair("merge", left, right)
+    term.number(counter(), counter())
+    shared = any(left.define(name) and right.define(name) for name in left.names())
+    often, seldom = ("override", "merge") if shared else ("merge", "override")
+    return Pair(often if random_.random() < 0.9 else seldom, left, right)
+
+
+def one(random_, inner):
+    """An operator on an expression."""
+    inner.number(counter(), counter())
+    defined = sorted(name for name in inner.names() if inner.define(name))
+    states = [inner.state(*reference) for reference in inner.references()]
+    opened = sorted({name for kind, name in states if kind == "open"})
+    lacking = [name for name in opened if name not in defined]
+
+    def pick(names):
+        return random_.choice(names if names and random_.random() < 0.96 else NAMES)
+
+    free = [name for name in NAMES if name not in defined]
+    if not defined:
+        return pair(random_, inner, Leaf(random_.choice(list(OBJECTS))))
+    if lacking and random_.random() < 0.7:
+        if random_.random() < 0.7:
+            return One("rename", [pick(lacking), pick(defined)], inner)
+        return One("copy_as", [pick(defined), pick(lacking)], inner)
     word = random_.choice(["rename", "restrict", "freeze", "hide", "show", "copy_as"])
-    count = {"rename": 2, "copy_as": 2, "show": random_.randrange(3)}.get(word, 1)
-    return One(word, [random_.choice(NAMES) for _ in range(count)], some(random_, depth - 1))
+    if word == "rename":
+        return One(word, [pick(defined + opened), pick(free)], inner)
+    if word == "copy_as":
+        return One(word, [pick(defined), pick(free)], inner)
+    count = random_.randrange(4) if word == "show" else 1
+    return One(word, [pick(defined) for _ in range(count)], inner)
 
 
 def terms(count):
@@ -256,52 +286,35 @@ FILES = " & ".join(f"{path} {path[1:]}.o" for path in OBJECTS)
 
 
 def row(number, term):
-    return f"{number} | {FILES} & /m (image (no_entry) {term.text()}) | /m | {wanted(term)}"
+    return f"sweep {number} | {FILES} & /m (image (no_entry) {term.text()}) | /m | {wanted(term)}"
 
 
 def write_rows():
-    """Writes rows behind those of the table that stand before this heading."""
-    heading = "# Rows that tests/sweep.py --rows wrote: blueprints beside plain descent through names."
-    table = HERE / "cases.txt"
-    rows = table.read_text().split("\n" + heading)[0].splitlines()
     linked, refused = 0, 0
     made = []
-    for number, term in enumerate(terms(2000)):
+    for number, term in enumerate(terms(5000)):
         if wanted(term).startswith("line"):
             refused += 1
             is_taken = refused % 40 == 0
         else:
             linked += 1
-            is_taken = linked <= 200
+            is_taken = linked % 12 == 0
         if is_taken:
-            made.append(row(f"sweep {number}", term))
-    table.write_text("\n".join([*rows, "", heading, "", *made]) + "\n")
-    names = [line.split("|")[0].strip() for line in rows + made if line and line[0] != "#"]
-    (HERE.parent / "stdout").write_text("".join(f"ok {name}\n" for name in names))
+            made.append(row(number, term))
+    table.write("tests/sweep.py --rows", "blueprints beside plain descent through names", made)
 
 
 def main():
     if sys.argv[1] == "--rows":
         write_rows()
         return
-    program = str(Path(sys.argv[1]).resolve())
-    count = int(sys.argv[2]) if len(sys.argv) > 2 else 2000
-    with tempfile.TemporaryDirectory() as name:
-        folder = Path(name)
-        for path in HERE.glob("*.o"):
-            shutil.copy(path, folder)
-        rows = [row(number, term) for number, term in enumerate(terms(count))]
-        refusals = sum(" line " in line for line in rows)
-        (folder / "cases.txt").write_text("\n".join(rows) + "\n")
-        said = subprocess.run([program], cwd=folder, capture_output=True, check=False, text=True)
-        lines = said.stdout.splitlines()
-        wrong = [line for line in lines if not line.startswith("ok ")]
-        if said.returncode or len(lines) != len(rows) or wrong:
-            print(said.stderr, *wrong[:10], sep="\n")
-            for line in wrong[:3]:
-                print(rows[int(line.split()[-1])])
-            sys.exit("sweep: answers differ")
-        print(f"{len(rows)} blueprints agree, {refusals} of them refused")
+    count = int(sys.argv[2]) if len(sys.argv) > 2 else 5000
+    rows = [row(number, term) for number, term in enumerate(terms(count))]
+    table.run(sys.argv[1], rows)
+    kinds = [line.split("| line refused ")[1].split()[0] for line in rows if "| line " in line]
+    refusals = ", ".join(f"{kinds.count(kind)} {kind}" for kind in ("L5", "L6", "L7", "L8", "L11"))
+    print(f"{len(rows)} blueprints agree, {len(rows) - len(kinds)} of them linked; refused {refusals}")
 
 
-main()
+if __name__ == "__main__":
+    main()

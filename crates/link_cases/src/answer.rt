@@ -1,32 +1,32 @@
-//! The answer of a link.
+//! The answer to what a case asks.
 
+use crate::link::linked;
 use crate::publish::path_of;
-use anyhow::{Result, anyhow};
-use link_plan::{link, plan};
+use crate::text::text_at;
+use anyhow::Result;
 use name_tree::Snap;
-use omos_base::{Bytes, Fault};
-use omos_model::Refusal;
-use refusal_lines::link_line;
+use omos_base::Bytes;
+use omos_model::Stamped;
 use std::alloc::Global;
 
-const BASE: u64 = 0x40_0000;
-
-/// The line of a refusal.
-fn line_of(alloc: Global, fault: Fault<Refusal>) -> Result<Bytes> {
-    match fault {
-        Fault::Refused(refusal) => Ok(link_line(alloc, &refusal)?),
-        Fault::NoMemory => Err(anyhow!("no memory")),
+/// A line for each entry: `/a 3`, the path and the number of the publish.
+fn lines_of(alloc: Global, entries: &[Stamped]) -> Result<Bytes> {
+    let mut lines = Bytes::new(alloc);
+    for entry in entries {
+        lines.push_slice(entry.path.as_bytes())?;
+        let stamp = entry.stamp;
+        lines.push_slice(format!(in alloc; " {stamp}\n")?.as_bytes())?;
     }
+    Ok(lines)
 }
 
-/// The image of a path at 0x400000, or the line of its refusal.
-pub(crate) fn answer_of(alloc: Global, snap: &Snap, path: &str) -> Result<Bytes> {
-    let planned = match plan(alloc, snap, &path_of(path)?) {
-        Ok(planned) => planned,
-        Err(fault) => return line_of(alloc, fault),
-    };
-    match link(alloc, &planned, BASE) {
-        Ok(linked) => Ok(Bytes::from_slice(alloc, linked.bytes())?),
-        Err(fault) => line_of(alloc, fault),
+/// The link of `PATH`, the canonical text of `text PATH`, or the entries by `list`.
+pub(crate) fn answer_of(alloc: Global, snap: &Snap, asked: &str) -> Result<Bytes> {
+    if asked == "list" {
+        return lines_of(alloc, snap.list());
+    }
+    match asked.strip_prefix("text ") {
+        Some(path) => text_at(alloc, snap, &path_of(path)?),
+        None => linked(alloc, snap, &path_of(asked)?),
     }
 }

@@ -7,7 +7,7 @@ use anyhow::{Context, Result};
 pub(crate) struct Case<'a> {
     pub(crate) name: &'a str,
     pub(crate) published: &'a str,
-    pub(crate) path: &'a str,
+    pub(crate) asked: &'a str,
     pub(crate) wanted: &'a str,
 }
 
@@ -22,11 +22,11 @@ impl<'a> Case<'a> {
     pub(crate) fn read(line: &'a str) -> Result<Case<'a>> {
         let (name, rest) = column(line)?;
         let (published, rest) = column(rest)?;
-        let (path, rest) = column(rest)?;
+        let (asked, rest) = column(rest)?;
         Ok(Case {
             name,
             published,
-            path,
+            asked,
             wanted: rest.trim(),
         })
     }

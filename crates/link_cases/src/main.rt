@@ -1,36 +1,47 @@
 //! Runs the table of cases in data/cases.txt: each publishes objects and blueprints on a version of
-//! the namespace, links a path at 0x400000, and compares the answer with what is wanted. It prints a
-//! line a case: `ok NAME`, or what the case gave instead.
+//! the namespace, asks for something there, and compares the answer with what is wanted. A line a
+//! case is printed: `ok NAME`, or `NAME: wanted .. got ..`.
 //!
-//! The wanted bytes and refusals were worked out by hand from the rules of docs/FORMATS.md, or, behind
-//! the second heading of the table, by tests/sweep.py, which descends to each use of a name.
+//! The wanted bytes, texts and refusals were worked out by hand from the rules of docs/FORMATS.md,
+//! or, under the headings of the table that say so, by scripts of tests/ that know nothing of this
+//! program.
 #![tactic(auto)]
 
 mod answer;
 mod case;
+mod escape;
+mod link;
 mod publish;
+mod text;
 mod wanted;
 
 use crate::answer::answer_of;
 use crate::case::Case;
-use crate::publish::publish;
+use crate::publish::version_of;
 use crate::wanted::is_wanted;
 use anyhow::{Context, Result};
-use name_tree::Snap;
+use omos_base::Bytes;
 use std::fs;
 
-/// What the case gave: `ok `, or what is wrong.
-fn outcome_of(rt: &HostRuntime, case: &Case) -> Result<&'static str> {
-    let mut snap = Snap::empty(rt.alloc())?;
-    for (number, item) in case.published.split('&').enumerate() {
-        snap = publish(rt, &snap, number as u64 + 1, item.trim())?;
+/// The answer to a case, or the line of the text that is refused.
+fn given(rt: &HostRuntime, case: &Case) -> Result<Bytes> {
+    match version_of(rt, case.published)? {
+        Ok(snap) => answer_of(rt.alloc(), &snap, case.asked),
+        Err(line) => Ok(line),
     }
-    let answer = answer_of(rt.alloc(), &snap, case.path)?;
-    Ok(if is_wanted(case.wanted, answer.as_slice())? {
-        "ok "
+}
+
+/// Runs a case, and prints its line.
+fn run(rt: &HostRuntime, case: &Case) -> Result<()> {
+    let answer = given(rt, case)?;
+    let (name, wanted) = (case.name, case.wanted);
+    if is_wanted(rt.alloc(), wanted, answer.as_slice())? {
+        println!(rt; "ok {name}")?;
     } else {
-        "OTHER ANSWER "
-    })
+        let got = str::from_utf8(answer.as_slice()).unwrap_or("an image");
+        println!(rt; "{name}: wanted {wanted} got {}", got.trim_end())?;
+    }
+    Ok(())
 }
 
 fn main(rt: HostRuntime) -> Result<()> {
@@ -40,9 +51,7 @@ fn main(rt: HostRuntime) -> Result<()> {
             continue;
         }
         let case = Case::read(line).context(line)?;
-        let outcome = outcome_of(&rt, &case).context(case.name)?;
-        rt.print(outcome)?;
-        rt.println(case.name)?;
+        run(&rt, &case).context(case.name)?;
     }
     Ok(())
 }

@@ -1,6 +1,8 @@
 //! What is wanted of an answer.
 
+use crate::escape::bytes_of;
 use anyhow::{Context, Result, bail};
+use std::alloc::Global;
 
 /// The byte of two hexadecimal digits.
 fn byte_of(word: &str) -> Result<u8> {
@@ -21,13 +23,14 @@ fn has_bytes(answer: &[u8], text: &str) -> Result<bool> {
     Ok(true)
 }
 
-/// The answer meets each of these, between `&`: `line TEXT`, `size BYTES`, `at ADDRESS BYTE..`,
-/// numbers but the size in hexadecimal.
-pub(crate) fn is_wanted(text: &str, answer: &[u8]) -> Result<bool> {
+/// The answer meets each of these, between `&`: `line TEXT`, `text TEXT`, `size BYTES`,
+/// `at ADDRESS BYTE..`, numbers but the size in hexadecimal.
+pub(crate) fn is_wanted(alloc: Global, text: &str, answer: &[u8]) -> Result<bool> {
     for item in text.split('&') {
         let (kind, rest) = item.trim().split_once(' ').context("what is wanted")?;
         let met = match kind {
             "line" => answer.split_last() == Some((&b'\n', rest.as_bytes())),
+            "text" => answer == bytes_of(alloc, rest)?.as_slice(),
             "size" => answer.len() == rest.parse().context("a size")?,
             "at" => has_bytes(answer, rest)?,
             _ => bail!("no such wish"),

@@ -1,0 +1,31 @@
+//! The answer of a link.
+
+use anyhow::{Result, anyhow};
+use link_plan::{link, plan};
+use name_tree::Snap;
+use omos_base::{Bytes, Fault, PathName};
+use omos_model::Refusal;
+use refusal_lines::link_line;
+use std::alloc::Global;
+
+const BASE: u64 = 0x40_0000;
+
+/// The line of a refusal.
+fn line_of(alloc: Global, fault: Fault<Refusal>) -> Result<Bytes> {
+    match fault {
+        Fault::Refused(refusal) => Ok(link_line(alloc, &refusal)?),
+        Fault::NoMemory => Err(anyhow!("no memory")),
+    }
+}
+
+/// The image of a path at 0x400000, or the line of its refusal.
+pub(crate) fn linked(alloc: Global, snap: &Snap, path: &PathName) -> Result<Bytes> {
+    let planned = match plan(alloc, snap, path) {
+        Ok(planned) => planned,
+        Err(fault) => return line_of(alloc, fault),
+    };
+    match link(alloc, &planned, BASE) {
+        Ok(linked) => Ok(Bytes::from_slice(alloc, linked.bytes())?),
+        Err(fault) => line_of(alloc, fault),
+    }
+}
