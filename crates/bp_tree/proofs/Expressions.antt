@@ -20,7 +20,7 @@ use Rattle.bp_tree.proofs.Opened.{both, apart, form_opens, opened_form}
 
 -- ---- the keyword
 
-abbrev form_named : List ℕ → Form
+abbrev pub form_named : List ℕ → Form
 form_named w =
     cond (same_name w (codes "merge")) form.Merge
     (cond (same_name w (codes "override")) form.Override

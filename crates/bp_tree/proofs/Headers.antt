@@ -40,7 +40,7 @@ opened_lead K L k ts after stop o there back h =
 
 -- ---- the word behind a parenthesis
 
-opened_word : (n : ℕ) (ws : List Token) (e : Expr) → IsOpened n (IsExpr n) (Open ∷ ws) e
+pub opened_word : (n : ℕ) (ws : List Token) (e : Expr) → IsOpened n (IsExpr n) (Open ∷ ws) e
     → (f : Form) × (body : List Token) × (ws ≡ Word (keyword f) ∷ body)
 opened_word n ws e (Merges inner xs eq is two are) =
     let k : ws ≡ Word (codes "merge") ∷ (inner ++ Close ∷ []) = cc in (form.Merge, inner ++ Close ∷ [], k)
@@ -83,12 +83,12 @@ range_word more k ws h =
     ]
 
 -- which word of a header it is, or none
-abbrev header_kind : List ℕ → ℕ
+abbrev pub header_kind : List ℕ → ℕ
 header_kind w =
     cond (same_name w (codes "entry")) 1
     (cond (same_name w (codes "no_entry")) 2 (cond (same_name w (codes "range")) 3 0))
 
-form_kind : (f : Form) → header_kind (keyword f) ≡ 0
+pub form_kind : (f : Form) → header_kind (keyword f) ≡ 0
 form_kind form.Merge = refl
 form_kind form.Override = refl
 form_kind (form.Apply kind.Rename) = refl

@@ -9,7 +9,7 @@ use Rattle.omos_model.specs.declared.refusal.BpFault.{BpFault}
 use Rattle.omos_model.specs.declared.refusal.BpFault.TheVariants.{Long, Byte, Shape, Deep, Number, Range}
 use Rattle.bp_tree.specs.Tokens.{Token, Open, Close, Word, Barred, Placed, tokens_of}
 use Rattle.bp_tree.specs.Texts.{words_of}
-use Rattle.bp_tree.specs.TextFaults.{images, IsAllowed, IsBarredAt, HasTokenFault, IsTextFault}
+use Rattle.bp_tree.specs.TextFaults.{Begins, images, IsAllowed, IsBarredAt, HasTokenFault, IsTextFault}
 use Rattle.bp_tree.specs.Grammar.{IsExpr, IsImageOf, IsStart, IsRange}
 use Rattle.bp_tree.specs.Symbols.{It, AnExpr, AStart, ARange, AreSyms, Completable, Fails, AreRead, WhyStops}
 use Rattle.bp_tree.specs.Header.{IsPart, HasHead, body_syms, range_syms, image_syms}
@@ -93,6 +93,12 @@ Opened ts a = AreRead (It Open ∷ []) (λ ws. ws ≡ Open ∷ []) ts a
 
 abbrev Named : List Placed → List Placed → Type 0
 Named a b = AreRead (It (Word (codes "image")) ∷ []) (λ ws. ws ≡ Word (codes "image") ∷ []) a b
+
+pub any_image : Begins images 0 []
+any_image =
+    let word = Word (codes "image") in
+    let named = solid_it word (AStart ∷ range_syms) start_solid in
+    let b = solid_it Open (It word ∷ AStart ∷ range_syms) named 0 in (b.0, to_image 0 b.0 b.1)
 
 pub image_stops : (ts a : List Placed) (stop : Stop) → Opened ts a → Fails (It (Word (codes "image")) ∷ []) a stop
     → WhyStops (AreSyms image_syms) ts stop

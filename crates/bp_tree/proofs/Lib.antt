@@ -19,3 +19,8 @@ mod Forms
 mod Sights
 mod Singles
 mod Runs
+mod Spelled
+mod Written
+mod ImageFaults
+mod SoleFaults
+mod Readings
