@@ -17,7 +17,8 @@ use Rattle.bp_tree.specs.declared.stop.Stop.{Stop}
 use Rattle.bp_tree.specs.declared.stop.Stop.TheVariants.{At}
 use Rattle.bp_tree.proofs.Headers.{range_open, no_start}
 use Rattle.bp_tree.proofs.Lawful.{expr_fits}
-use Rattle.bp_tree.proofs.Moves.{same, shape_fault}
+use Rattle.bp_tree.proofs.Moves.{shape_fault}
+use Rattle.bp_tree.proofs.Sequences.{same}
 use Rattle.bp_tree.proofs.NameLists.{words-append}
 use Rattle.bp_tree.proofs.Solids.{solid_it}
 

@@ -11,57 +11,17 @@ use Rattle.omos_model.specs.declared.expr.Expr.{Expr}
 use Rattle.omos_model.specs.declared.expr.Expr.TheOpen.{Expr-F}
 use Rattle.omos_model.specs.declared.expr.Expr.TheViews.{roll-Expr}
 use Rattle.omos_model.specs.declared.expr.Expr.TheVariants as expr
-use Rattle.omos_model.specs.declared.expr.Expr.TheFolds.{fold-Expr, fold-roll-Expr, ind-Expr}
+use Rattle.omos_model.specs.declared.expr.Expr.TheFolds.{ind-Expr}
 use Rattle.bp_tree.specs.Tokens.{Token, Open, Close, Word}
 use Rattle.bp_tree.specs.Grammar.{IsExpr, Merges, Overrides, Applies, AreExprs, op_words, IsOp, op_nesting, applied}
 use Rattle.bp_tree.specs.Canonical.{expr_text, text_layer, each_spaced, spaced}
 use Rattle.bp_tree.specs.Named.{names_layer, names_in, paths_layer, paths_in}
+use Rattle.bp_tree.proofs.Lawful.{op_deep, op_formed, formed_count}
+use Rattle.bp_tree.proofs.Layers.{op_layer, rolls, fold_path, fold_merge, fold_override, fold_applied}
 use Rattle.bp_tree.proofs.Samples.{path_is_expr, opened_is_expr}
 use Rattle.bp_tree.proofs.Spelled.{Spells, IsWordly, AreApart, spells_open, spells_close, spells_nothing, spells_blank, spells_word, spells_named, spells_joined, spells_as, spells_closed, spells_key, spells_argument, spells_listed, each_apart, name_wordly, path_wordly}
 
 -- ---- forms of expressions
-
--- an operator over what is made of its operand
-abbrev op_layer : {A : Type 0} → Op → A → Expr-F A
-op_layer (Rename a b) x = Expr-F.Rename a b x
-op_layer (Restrict a) x = Expr-F.Restrict a x
-op_layer (Freeze a) x = Expr-F.Freeze a x
-op_layer (Hide a) x = Expr-F.Hide a x
-op_layer (Show names) x = Expr-F.Show names x
-op_layer (CopyAs a b) x = Expr-F.CopyAs a b x
-
-rolls : (op : Op) (x : Expr) → roll-Expr (op_layer op x) ≡ applied op x
-rolls (Rename a b) x = expr.rolls-Rename a b x
-rolls (Restrict a) x = expr.rolls-Restrict a x
-rolls (Freeze a) x = expr.rolls-Freeze a x
-rolls (Hide a) x = expr.rolls-Hide a x
-rolls (Show names) x = expr.rolls-Show names x
-rolls (CopyAs a b) x = expr.rolls-CopyAs a b x
-
--- what a fold gives of an operator's expression
-fold_applied : {A : Type 0} (layer : Expr-F A → A) (op : Op) (x : Expr)
-    → fold-Expr A layer (applied op x) ≡ layer (op_layer op (fold-Expr A layer x))
-fold_applied {A} layer op x = ap (fold-Expr A layer) (sym (rolls op x)) ∙ folded op
-  where
-    folded : (op : Op) → fold-Expr A layer (roll-Expr (op_layer op x)) ≡ layer (op_layer op (fold-Expr A layer x))
-    folded (Rename a b) = fold-roll-Expr A layer (Expr-F.Rename a b x)
-    folded (Restrict a) = fold-roll-Expr A layer (Expr-F.Restrict a x)
-    folded (Freeze a) = fold-roll-Expr A layer (Expr-F.Freeze a x)
-    folded (Hide a) = fold-roll-Expr A layer (Expr-F.Hide a x)
-    folded (Show names) = fold-roll-Expr A layer (Expr-F.Show names x)
-    folded (CopyAs a b) = fold-roll-Expr A layer (Expr-F.CopyAs a b x)
-
-fold_path : {A : Type 0} (layer : Expr-F A → A) (p : Name) → fold-Expr A layer (expr.Path p) ≡ layer (Expr-F.Path p)
-fold_path {A} layer p = ap (fold-Expr A layer) (sym (expr.rolls-Path p)) ∙ fold-roll-Expr A layer (Expr-F.Path p)
-
-fold_merge : {A : Type 0} (layer : Expr-F A → A) (xs : List Expr)
-    → fold-Expr A layer (expr.Merge xs) ≡ layer (Expr-F.Merge (map (fold-Expr A layer) xs))
-fold_merge {A} layer xs = ap (fold-Expr A layer) (sym (expr.rolls-Merge xs)) ∙ fold-roll-Expr A layer (Expr-F.Merge xs)
-
-fold_override : {A : Type 0} (layer : Expr-F A → A) (l r : Expr)
-    → fold-Expr A layer (expr.Override l r) ≡ layer (Expr-F.Override (fold-Expr A layer l) (fold-Expr A layer r))
-fold_override {A} layer l r =
-    ap (fold-Expr A layer) (sym (expr.rolls-Override l r)) ∙ fold-roll-Expr A layer (Expr-F.Override l r)
 
 data IsForm (x : Expr) : Type 0 where
   ByPath : (p : Name) → x ≡ expr.Path p → IsForm x
@@ -145,22 +105,6 @@ op_named (Show names) ns h = all_apart IsSymName names ns h
 op_named (CopyAs a b) ns h =
     let more = All-tail IsSymName a (b ∷ ns) h in
     ((All-head IsSymName a (b ∷ ns) h, All-head IsSymName b ns more), All-tail IsSymName b ns more)
-
-op_deep : (op : Op) (k : ℕ) → nesting_layer (op_layer op k) ≡ max (op_nesting op) k + 1
-op_deep (Rename a b) k = omega arith
-op_deep (Restrict a) k = omega arith
-op_deep (Freeze a) k = omega arith
-op_deep (Hide a) k = omega arith
-op_deep (Show names) k = omega arith
-op_deep (CopyAs a b) k = omega arith
-
-op_formed : (op : Op) (b : Bool) → formed_layer (op_layer op b) ≡ b
-op_formed (Rename a b) t = refl
-op_formed (Restrict a) t = refl
-op_formed (Freeze a) t = refl
-op_formed (Hide a) t = refl
-op_formed (Show names) t = refl
-op_formed (CopyAs a b) t = refl
 
 op_paths : (op : Op) (ps : List Name) → paths_layer (op_layer op ps) ≡ ps
 op_paths (Rename a b) ps = refl
@@ -265,10 +209,6 @@ all_written n deeper (x ∷ xs) m deep formed names paths =
           (spells_blank (expr_text x ++ (each_spaced texts ++ t)) (a.0 ++ (more.0 ++ vs)) joined))
           (ap (λ u. 32 ∷ u) (append_assoc (expr_text x) (each_spaced texts) t)),
     )
-
-formed_count : (xs : List Expr) → length (map is_formed xs) ≡ length xs
-formed_count [] = refl
-formed_count (x ∷ xs) = omega (arith, formed_count xs)
 
 merge_written : (n : ℕ) → ((y : Expr) → IsSayable n y → IsWritten n y) → (x : Expr) (xs : List Expr)
     → x ≡ expr.Merge xs → IsSayable (suc n) x → IsWritten (suc n) x
