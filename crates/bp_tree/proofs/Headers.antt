@@ -17,7 +17,7 @@ use Rattle.bp_tree.specs.declared.form.Applied.TheVariants as kind
 use Rattle.bp_tree.specs.declared.stop.Stop.{Stop}
 use Rattle.bp_tree.proofs.Expressions.{opened_head}
 use Rattle.bp_tree.proofs.Moves.{step}
-use Rattle.bp_tree.proofs.Opened.{op_args}
+use Rattle.bp_tree.proofs.Opened.{opened_form}
 use Rattle.bp_tree.proofs.Optional.{DiffersAtKeys, unless_key}
 use Rattle.bp_tree.proofs.Samples.{expr_cases, opened_is_expr, opened_a, freeze_a, no_number_freeze}
 use Rattle.bp_tree.proofs.Solids.{solid_end}
@@ -42,16 +42,9 @@ opened_lead K L k ts after stop o there back h =
 
 pub opened_word : (n : ℕ) (ws : List Token) (e : Expr) → IsOpened n (IsExpr n) (Open ∷ ws) e
     → (f : Form) × (body : List Token) × (ws ≡ Word (keyword f) ∷ body)
-opened_word n ws e (Merges inner xs eq is two are) =
-    let k : ws ≡ Word (codes "merge") ∷ (inner ++ Close ∷ []) = cc in (form.Merge, inner ++ Close ∷ [], k)
-opened_word n ws e (Overrides l r x y eq is px py) =
-    let k : ws ≡ Word (codes "override") ∷ (l ++ (r ++ Close ∷ [])) = cc in (form.Override, l ++ (r ++ Close ∷ []), k)
-opened_word n ws e (Applies op inner x eq is isop nest px) =
-    let a = op_args op 0 isop in
-    let k : Open ∷ ws ≡ Open ∷ Word (keyword (form.Apply a.0)) ∷ (a.1 ++ (inner ++ Close ∷ [])) =
-    eq ∙ ap (λ us. Open ∷ (us ++ (inner ++ Close ∷ []))) a.2 in
-    let w : ws ≡ Word (keyword (form.Apply a.0)) ∷ (a.1 ++ (inner ++ Close ∷ [])) = cc in
-    (form.Apply a.0, a.1 ++ (inner ++ Close ∷ []), w)
+opened_word n ws e is =
+    let P : ℕ → Type 0 = λ m. IsOpened m (IsExpr m) (Open ∷ ws) e in
+    let o = opened_form n 0 ws e (subst P (omega arith) is) in (o.0, o.1, o.2)
 
 expr_word : (more : ℕ) (k : List ℕ) (ws front rest : List Token) (x : Expr) (n : ℕ) → Open ∷ Word k ∷ ws ≡ front ++ rest
     → IsExpr n front x → (f : Form) × (k ≡ keyword f)

@@ -1,5 +1,5 @@
 -- Symbols read one after the other, and languages that differ elsewhere.
-use Rattle.std.proofs.Common.{◌≡◌, ℕ, List, [], ◌∷◌, ◌++◌, sym, ap, subst, ◌∙◌, append_assoc}
+use Rattle.std.proofs.Common.{◌≡◌, ℕ, List, [], ◌∷◌, ◌++◌, refl, sym, ap, subst, ◌∙◌, ◌⊎◌, inl, inr, append_assoc}
 use Rattle.omos_model.specs.declared.refusal.BpFault.{BpFault}
 use Rattle.omos_model.specs.declared.refusal.BpFault.TheVariants.{Long, Byte, Shape, Deep, Number, Range}
 use Rattle.bp_tree.specs.Tokens.{Token, Close, Word, Placed}
@@ -92,22 +92,14 @@ DiffersAtClose K L =
 
 close_own : (K L : Language) → DiffersAtClose K L → (t : Placed) (after : List Placed)
     → (t.token ≡ Close → ⊥) → (front : List Placed) (u : Placed) (behind : List Placed)
-    → t ∷ after ≡ front ++ u ∷ behind → (more : ℕ)
-    → Begins L more (words_of front ++ u.token ∷ []) → Begins K more (words_of front ++ u.token ∷ [])
-close_own K L d t after other [] u behind parts more b =
-    let n : t ≡ u = cc in (b.0, d more u.token b.0 (λ h. other (ap (λ p. p.token) n ∙ h)) b.1)
-close_own K L d t after other (f ∷ fs) u behind parts more b =
+    → t ∷ after ≡ front ++ u ∷ behind → (more : ℕ) (v : Token) → (v ≡ u.token) ⊎ (v ≡ Close → ⊥)
+    → Begins L more (words_of front ++ v ∷ []) → Begins K more (words_of front ++ v ∷ [])
+close_own K L d t after other [] u behind parts more v (inl e) b =
+    let n : t ≡ u = cc in (b.0, d more v b.0 (λ h. other (ap (λ p. p.token) n ∙ sym e ∙ h)) b.1)
+close_own K L d t after other [] u behind parts more v (inr none) b = (b.0, d more v b.0 none b.1)
+close_own K L d t after other (f ∷ fs) u behind parts more v is b =
     let n : t ≡ f = cc in
-    (b.0, d more f.token ((words_of fs ++ u.token ∷ []) ++ b.0) (λ h. other (ap (λ p. p.token) n ∙ h)) b.1)
-
-close_word : (K L : Language) → DiffersAtClose K L → (t : Placed) (after : List Placed)
-    → (t.token ≡ Close → ⊥) → (front : List Placed) (u : Placed) (behind : List Placed)
-    → t ∷ after ≡ front ++ u ∷ behind → (word : List ℕ)
-    → Begins L 0 (words_of front ++ Word word ∷ []) → Begins K 0 (words_of front ++ Word word ∷ [])
-close_word K L d t after other [] u behind parts word b = (b.0, d 0 (Word word) b.0 (λ h. cc) b.1)
-close_word K L d t after other (f ∷ fs) u behind parts word b =
-    let n : t ≡ f = cc in
-    (b.0, d 0 f.token ((words_of fs ++ Word word ∷ []) ++ b.0) (λ h. other (ap (λ p. p.token) n ∙ h)) b.1)
+    (b.0, d more f.token ((words_of fs ++ v ∷ []) ++ b.0) (λ h. other (ap (λ p. p.token) n ∙ h)) b.1)
 
 -- and no parenthesis stands here
 pub unless_closed : (K L : Language) (ts : List Placed) (t : Placed) (after : List Placed) (stop : Stop)
@@ -119,14 +111,15 @@ unless_closed K L ts t after stop e other incl d h =
     let Q : List Placed → Type 0 = λ us. WhyStops K us stop in
     subst P (sym e) (narrowed K L (t ∷ after) stop incl
     (λ l. d 0 t.token (words_of after) other l)
-    (close_own K L d t after other)
+    (λ front u behind parts more b.
+    close_own K L d t after other front u behind parts more u.token (inl refl) b)
     (λ front u behind parts. (
       (λ c. (
         (c.0.0, (c.0.1.0, incl 0 ((words_of front ++ Word c.0.0 ∷ []) ++ c.0.1.0) c.0.1.1)),
-        λ word b. c.1 word (close_word K L d t after other front u behind parts word b),
+        λ word b. c.1 word (close_own K L d t after other front u behind parts 0 (Word word) (inr (λ h. cc)) b),
       )),
       λ c. (
-        (c.0.0, close_word K L d t after other front u behind parts c.0.0 c.0.1),
+        (c.0.0, close_own K L d t after other front u behind parts 0 (Word c.0.0) (inr (λ h. cc)) c.0.1),
         λ word b. c.1 word (b.0, incl 0 ((words_of front ++ Word word ∷ []) ++ b.0) b.1),
       ),
     ))
