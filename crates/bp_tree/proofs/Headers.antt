@@ -8,7 +8,7 @@ use Rattle.omos_model.specs.declared.expr.Expr.{Expr}
 use Rattle.bp_tree.specs.Tokens.{Token, Open, Close, Word, Placed}
 use Rattle.bp_tree.specs.Texts.{words_of}
 use Rattle.bp_tree.specs.TextFaults.{Language, Begins}
-use Rattle.bp_tree.specs.Grammar.{IsExpr, IsOpened, Merges, Overrides, Applies, IsStart, IsRange}
+use Rattle.bp_tree.specs.Grammar.{IsExpr, IsOpened, IsStart, IsRange}
 use Rattle.bp_tree.specs.Symbols.{Sym, It, AName, AStart, ARange, Low, AreSyms, keyword, Completable, Fails, AreRead, WhyStops}
 use Rattle.bp_tree.specs.Header.{IsOpening, IsPart, body_syms, range_syms, AreBounds}
 use Rattle.bp_tree.specs.declared.form.Form.{Form}

@@ -1,5 +1,6 @@
 -- The text of an image has no fault.
-use Rattle.std.proofs.Common.{◌≡◌, ℕ, zero, suc, Bool, true, false, ◌&&◌, List, [], ◌∷◌, ◌++◌, map, refl, ap, subst, ◌∙◌, sym, inl, inr, codes, append_assoc}
+use Rattle.std.proofs.Common.{◌≡◌, ℕ, zero, suc, Bool, true, false, ◌&&◌, List, [], ◌∷◌, ◌++◌, map}
+use Rattle.std.proofs.Common.{refl, ap, subst, ◌∙◌, sym, inl, inr, append_assoc}
 use Rattle.std.specs.List.{list_all}
 use Rattle.std.proofs.lemmas.List.Folds.{list_all-append}
 use Rattle.omos_model.specs.Names.{Name}
@@ -10,14 +11,16 @@ use Rattle.omos_model.specs.declared.entry.Start.TheVariants.{Named, NoEntry}
 use Rattle.omos_model.specs.declared.expr.Expr.{Expr}
 use Rattle.bp_tree.specs.Tokens.{Token, Open, Close, Word, Barred, Placed, tokens_of}
 use Rattle.bp_tree.specs.Texts.{words_of}
-use Rattle.bp_tree.specs.Grammar.{IsExpr, IsPathOf, IsOpened, Merges, Overrides, Applies, AreExprs, op_words, IsStart, IsRange, IsImageOf}
+use Rattle.bp_tree.specs.Grammar.{IsExpr, IsPathOf, IsOpened, Merges, Overrides, Applies, AreExprs}
+use Rattle.bp_tree.specs.Grammar.{op_words, IsStart, IsRange, IsImageOf}
 use Rattle.bp_tree.specs.TextFaults.{IsBarredAt}
 use Rattle.bp_tree.specs.Laws.{ImageLaw}
 use Rattle.bp_tree.proofs.NameLists.{words-append}
 
 pub image_law : ImageLaw
 image_law text image fault is (inl s) =
-    let all : words_of (tokens_of text) ≡ (words_of s.front ++ s.token.token ∷ []) ++ words_of s.behind =
+    let all : words_of (tokens_of text) ≡
+    (words_of s.front ++ s.token.token ∷ []) ++ words_of s.behind =
     ap words_of s.parts ∙ words-append s.front (s.token ∷ s.behind)
     ∙ sym (append_assoc (words_of s.front) (s.token.token ∷ []) (words_of s.behind)) in
     let P : List Token → Type 0 = λ ws. IsImageOf 63 ws image in
@@ -53,7 +56,8 @@ plain_op (CopyAs a b) = refl
 plain_path : (ts : List Token) (e : Expr) → IsPathOf ts e → ArePlain ts
 plain_path ts e h = ap (list_all is_plain) h.1
 
-plain_exprs : (P : List Token → Expr → Type 0) → ((ts : List Token) (e : Expr) → P ts e → ArePlain ts)
+plain_exprs : (P : List Token → Expr → Type 0)
+    → ((ts : List Token) (e : Expr) → P ts e → ArePlain ts)
     → (ts : List Token) (xs : List Expr) → AreExprs P ts xs → ArePlain ts
 plain_exprs P each ts [] h = ap (list_all is_plain) h
 plain_exprs P each ts (x ∷ xs) h =
@@ -69,7 +73,8 @@ plain_opened n P each ts e (Overrides l r x y eq is px py) =
     ∙ plain_both l (r ++ Close ∷ []) (each l x px) (plain_both r (Close ∷ []) (each r y py) refl)
 plain_opened n P each ts e (Applies op inner x eq is isop nest px) =
     ap (list_all is_plain) eq
-    ∙ plain_both (op_words op) (inner ++ Close ∷ []) (plain_op op) (plain_both inner (Close ∷ []) (each inner x px) refl)
+    ∙ plain_both (op_words op) (inner ++ Close ∷ []) (plain_op op)
+    (plain_both inner (Close ∷ []) (each inner x px) refl)
 
 plain_expr : (n : ℕ) (ts : List Token) (e : Expr) → IsExpr n ts e → ArePlain ts
 unfolding IsExpr
@@ -97,7 +102,8 @@ not_plain : (b c : Bool) → b ≡ (c && false) → b ≡ true → ⊥
 not_plain b true e h = let q : true ≡ false = sym h ∙ e in cc
 not_plain b false e h = let q : true ≡ false = sym h ∙ e in cc
 
-pub none_barred : (n : ℕ) (ts : List Placed) (i : ImageParts) (place : ℕ) → IsImageOf n (words_of ts) i
+pub none_barred : (n : ℕ) (ts : List Placed) (i : ImageParts) (place : ℕ)
+    → IsImageOf n (words_of ts) i
     → IsBarredAt ts place → ⊥
 none_barred n ts i place is b =
     not_plain (list_all is_plain (words_of ts)) (list_all is_plain (words_of b.0))

@@ -1,5 +1,6 @@
 -- Whole images, and whole texts.
-use Rattle.std.proofs.Common.{◌≡◌, ◌≤◌, ℕ, ◌+◌, Bool, true, ◌&&◌, nat_le, List, [], ◌∷◌, ◌++◌, All, refl, sym, ap, subst, ◌∙◌, inl, inr, codes, arith, append_assoc, length}
+use Rattle.std.proofs.Common.{◌≡◌, ◌≤◌, ℕ, ◌+◌, true, ◌&&◌, nat_le, List, [], ◌∷◌, ◌++◌, All, refl, sym, ap, subst, ◌∙◌, inl, inr, codes, arith, append_assoc, length}
+use Rattle.std.proofs.lemmas.Bool.{and_from}
 use Rattle.std.proofs.lemmas.List.{append-nil}
 use Rattle.std.proofs.lemmas.List.Elements.{All-nil, All-cons, All-append}
 use Rattle.omos_model.specs.ImageParts.{image_of, is_range, is_formed, nesting, IsImage}
@@ -179,9 +180,6 @@ whole s lo hi x ts a b c h r q none =
     ∙ ap (λ us. Open ∷ Word (codes "image") ∷ us) (append_assoc v.0 v.1 (words_of r.front ++ Close ∷ [])) in
     (v.0, v.1, words_of r.front, all, v.3, v.4, r.value)
 
-three : (a b c : Bool) → a ≡ true → b ≡ true → c ≡ true → (a && b && c) ≡ true
-three a b c e f g = rw (e, f, g) refl
-
 range_true : (ws : List Token) (lo hi : ℕ) → IsRange ws lo hi → is_range lo hi ≡ true
 range_true ws lo hi h =
     elim h [
@@ -195,7 +193,8 @@ lawful s lo hi x ts a b h r =
     let fits = expr_fits 63 (words_of r.front) x r.value in
     let low : nesting x ≤ 63 = fits.1 in
     let deep : nat_le (nesting x + 1) 64 ≡ true = grind (arith, low) in
-    three (is_range lo hi) (is_formed x) (nat_le (nesting x + 1) 64) (range_true h.value.1 lo hi h.value.4) fits.0 deep
+    and_from (is_range lo hi && is_formed x) (nat_le (nesting x + 1) 64)
+    (and_from (is_range lo hi) (is_formed x) (range_true h.value.1 lo hi h.value.4) fits.0) deep
 
 -- ---- texts
 

@@ -1,12 +1,14 @@
 -- What a text says is a blueprint: its merges have two operands, and it nests as deep as it may.
 use Rattle.std.proofs.Common.{◌≡◌, ◌≤◌, ℕ, zero, suc, ◌+◌, Bool, true, ◌&&◌, nat_le, max, fold, map, List, [], ◌∷◌, refl, sym, ap, subst, ◌∙◌, inl, inr, arith, length}
 use Rattle.std.specs.List.{list_all}
+use Rattle.omos_model.specs.Names.{Name}
 use Rattle.omos_model.specs.Op.{Op, Rename, Restrict, Freeze, Hide, Show, CopyAs}
 use Rattle.omos_model.specs.ImageParts.{formed_layer, is_formed, nesting_layer, nesting}
 use Rattle.omos_model.specs.declared.expr.Expr.{Expr}
 use Rattle.omos_model.specs.declared.expr.Expr.TheVariants as expr
 use Rattle.bp_tree.specs.Tokens.{Token}
 use Rattle.bp_tree.specs.Grammar.{IsExpr, IsPathOf, IsOpened, Merges, Overrides, Applies, AreExprs, op_nesting, applied}
+use Rattle.bp_tree.specs.Named.{paths_layer}
 use Rattle.bp_tree.proofs.Layers.{op_layer, fold_path, fold_merge, fold_override, fold_applied}
 
 abbrev pub IsFit : ℕ → Expr → Type 0
@@ -74,6 +76,14 @@ op_formed (Freeze a) t = refl
 op_formed (Hide a) t = refl
 op_formed (Show names) t = refl
 op_formed (CopyAs a b) t = refl
+
+pub op_paths : (op : Op) (ps : List Name) → paths_layer (op_layer op ps) ≡ ps
+op_paths (Rename a b) ps = refl
+op_paths (Restrict a) ps = refl
+op_paths (Freeze a) ps = refl
+op_paths (Hide a) ps = refl
+op_paths (Show names) ps = refl
+op_paths (CopyAs a b) ps = refl
 
 op_fits : (n : ℕ) (op : Op) (x : Expr) → IsFit n x → op_nesting op ≤ n → IsFit (suc n) (applied op x)
 op_fits n op x h nest =

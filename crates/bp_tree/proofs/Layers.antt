@@ -1,5 +1,5 @@
 -- What folds give of each form of an expression, and its canonical text.
-use Rattle.std.proofs.Common.{◌≡◌, ℕ, List, ◌++◌, codes, ap, sym, ◌∙◌, map}
+use Rattle.std.proofs.Common.{◌≡◌, List, ◌++◌, codes, ap, sym, ◌∙◌, map}
 use Rattle.omos_model.specs.Names.{Name}
 use Rattle.omos_model.specs.Op.{Op, Rename, Restrict, Freeze, Hide, Show, CopyAs}
 use Rattle.omos_model.specs.declared.expr.Expr.{Expr}
@@ -32,7 +32,8 @@ pub fold_applied : {A : Type 0} (layer : Expr-F A → A) (op : Op) (x : Expr)
     → fold-Expr A layer (applied op x) ≡ layer (op_layer op (fold-Expr A layer x))
 fold_applied {A} layer op x = ap (fold-Expr A layer) (sym (rolls op x)) ∙ folded op
   where
-    folded : (op : Op) → fold-Expr A layer (roll-Expr (op_layer op x)) ≡ layer (op_layer op (fold-Expr A layer x))
+    folded : (op : Op) → fold-Expr A layer (roll-Expr (op_layer op x)) ≡ layer
+        (op_layer op (fold-Expr A layer x))
     folded (Rename a b) = fold-roll-Expr A layer (Expr-F.Rename a b x)
     folded (Restrict a) = fold-roll-Expr A layer (Expr-F.Restrict a x)
     folded (Freeze a) = fold-roll-Expr A layer (Expr-F.Freeze a x)
@@ -40,17 +41,22 @@ fold_applied {A} layer op x = ap (fold-Expr A layer) (sym (rolls op x)) ∙ fold
     folded (Show names) = fold-roll-Expr A layer (Expr-F.Show names x)
     folded (CopyAs a b) = fold-roll-Expr A layer (Expr-F.CopyAs a b x)
 
-pub fold_path : {A : Type 0} (layer : Expr-F A → A) (p : Name) → fold-Expr A layer (expr.Path p) ≡ layer (Expr-F.Path p)
-fold_path {A} layer p = ap (fold-Expr A layer) (sym (expr.rolls-Path p)) ∙ fold-roll-Expr A layer (Expr-F.Path p)
+pub fold_path : {A : Type 0} (layer : Expr-F A → A) (p : Name)
+    → fold-Expr A layer (expr.Path p) ≡ layer (Expr-F.Path p)
+fold_path {A} layer p =
+    ap (fold-Expr A layer) (sym (expr.rolls-Path p)) ∙ fold-roll-Expr A layer (Expr-F.Path p)
 
 pub fold_merge : {A : Type 0} (layer : Expr-F A → A) (xs : List Expr)
     → fold-Expr A layer (expr.Merge xs) ≡ layer (Expr-F.Merge (map (fold-Expr A layer) xs))
-fold_merge {A} layer xs = ap (fold-Expr A layer) (sym (expr.rolls-Merge xs)) ∙ fold-roll-Expr A layer (Expr-F.Merge xs)
+fold_merge {A} layer xs =
+    ap (fold-Expr A layer) (sym (expr.rolls-Merge xs)) ∙ fold-roll-Expr A layer (Expr-F.Merge xs)
 
 pub fold_override : {A : Type 0} (layer : Expr-F A → A) (l r : Expr)
-    → fold-Expr A layer (expr.Override l r) ≡ layer (Expr-F.Override (fold-Expr A layer l) (fold-Expr A layer r))
+    → fold-Expr A layer (expr.Override l r) ≡ layer
+    (Expr-F.Override (fold-Expr A layer l) (fold-Expr A layer r))
 fold_override {A} layer l r =
-    ap (fold-Expr A layer) (sym (expr.rolls-Override l r)) ∙ fold-roll-Expr A layer (Expr-F.Override l r)
+    ap (fold-Expr A layer) (sym (expr.rolls-Override l r))
+    ∙ fold-roll-Expr A layer (Expr-F.Override l r)
 
 -- ---- canonical texts
 

@@ -24,3 +24,4 @@ mod Written
 mod ImageFaults
 mod SoleFaults
 mod Readings
+mod NamedForms

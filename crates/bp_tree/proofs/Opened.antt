@@ -100,9 +100,13 @@ op_args (Restrict a) more is = (kind.Restrict, Word a ∷ [], refl, refl, is_arg
 op_args (Freeze a) more is = (kind.Freeze, Word a ∷ [], refl, refl, is_argument more a is)
 op_args (Hide a) more is = (kind.Hide, Word a ∷ [], refl, refl, is_argument more a is)
 op_args (Show names) more is =
-    let list = map Word names ++ Close ∷ [] in
-    (kind.Show, Open ∷ list, refl, refl,
-      (Open ∷ [], list, refl, refl, (list, [], sym (append-nil list), (names, refl, is), refl)))
+    let list = map Word names ++ Close ∷ [] in (
+      kind.Show,
+      Open ∷ list,
+      refl,
+      refl,
+      (Open ∷ [], list, refl, refl, (list, [], sym (append-nil list), (names, refl, is), refl)),
+    )
 op_args (CopyAs a b) more is =
     (kind.CopyAs, Word a ∷ Word b ∷ [], refl, refl, are_arguments more a b is.0 is.1)
 

@@ -1,11 +1,10 @@
 -- The numbers of a range, and what may be wrong with them.
 use Rattle.std.proofs.Common.{◌≡◌, ℕ, List, [], ◌∷◌, ◌++◌, refl, sym, ap, subst, ◌∙◌, inl, codes, arith, IsTrue}
 use Rattle.omos_model.specs.ImageParts.{is_range, top}
-use Rattle.omos_model.specs.declared.refusal.BpFault.{BpFault}
 use Rattle.omos_model.specs.declared.refusal.BpFault.TheVariants.{Shape, Number, Range}
 use Rattle.bp_tree.specs.Tokens.{Token, Open, Close, Word, Placed}
 use Rattle.bp_tree.specs.Numerals.{IsNumeralOf}
-use Rattle.bp_tree.specs.TextFaults.{Begins, CallsForNumber, IsNumberWord, IsTokenFault}
+use Rattle.bp_tree.specs.TextFaults.{CallsForNumber, IsNumberWord}
 use Rattle.bp_tree.specs.Texts.{words_of}
 use Rattle.bp_tree.specs.Symbols.{Sym, It, Low, High, IsSym, AreSyms, Completable, Fails, AreRead, WhyStops}
 use Rattle.bp_tree.specs.Header.{AreBounds, IsUpper}

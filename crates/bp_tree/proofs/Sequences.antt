@@ -1,10 +1,8 @@
 -- Symbols read one after the other, and languages that differ elsewhere.
 use Rattle.std.proofs.Common.{◌≡◌, ℕ, List, [], ◌∷◌, ◌++◌, refl, sym, ap, subst, ◌∙◌, ◌⊎◌, inl, inr, append_assoc}
-use Rattle.omos_model.specs.declared.refusal.BpFault.{BpFault}
-use Rattle.omos_model.specs.declared.refusal.BpFault.TheVariants.{Long, Byte, Shape, Deep, Number, Range}
 use Rattle.bp_tree.specs.Tokens.{Token, Close, Word, Placed}
 use Rattle.bp_tree.specs.Texts.{words_of}
-use Rattle.bp_tree.specs.TextFaults.{Language, Begins, CallsForNumber, IsTokenFault}
+use Rattle.bp_tree.specs.TextFaults.{Language, Begins, CallsForNumber}
 use Rattle.bp_tree.specs.Symbols.{Sym, AreSyms, Completable, Fails, AreRead, WhyStops}
 use Rattle.bp_tree.specs.declared.stop.Stop.{Stop}
 use Rattle.bp_tree.specs.declared.stop.Stop.TheVariants.{Early, At}

@@ -1,11 +1,14 @@
 -- Tokens stop beginning something at one token, and for one reason.
-use Rattle.std.proofs.Common.{◌≡◌, ℕ, List, [], ◌∷◌, ◌++◌, All, length, refl, ap, subst, ◌∙◌, sym, ◌⊎◌, inl, inr, append_assoc}
+use Rattle.std.proofs.Common.{◌≡◌, ℕ, List, [], ◌∷◌, ◌++◌, All, refl, ap, subst, ◌∙◌, sym}
+use Rattle.std.proofs.Common.{◌⊎◌, inl, inr, append_assoc}
 use Rattle.omos_model.specs.declared.refusal.BpFault.{BpFault}
-use Rattle.omos_model.specs.declared.refusal.BpFault.TheVariants.{Long, Byte, Shape, Deep, Number, Range}
+use Rattle.omos_model.specs.declared.refusal.BpFault.TheVariants.{Long, Byte, Shape, Deep, Number}
+use Rattle.omos_model.specs.declared.refusal.BpFault.TheVariants.{Range}
 use Rattle.std.proofs.lemmas.List.Elements.{All-head, All-tail}
 use Rattle.bp_tree.specs.Tokens.{Token, Open, Word, Barred, Placed}
 use Rattle.bp_tree.specs.Texts.{words_of}
-use Rattle.bp_tree.specs.TextFaults.{Language, Begins, IsNumberWord, IsTokenFault, StopsAt, HasTokenFault, IsAllowed}
+use Rattle.bp_tree.specs.TextFaults.{Language, Begins, IsNumberWord, IsTokenFault, StopsAt}
+use Rattle.bp_tree.specs.TextFaults.{HasTokenFault, IsAllowed}
 use Rattle.bp_tree.proofs.NameLists.{words-append}
 
 -- ---- the token
@@ -14,7 +17,8 @@ use Rattle.bp_tree.proofs.NameLists.{words-append}
 abbrev pub Behind : List Placed → Placed → List Placed → Type 0
 Behind xs a ys = (more : List Placed) × (ys ≡ (xs ++ a ∷ []) ++ more)
 
-pub in_order : (xs ys : List Placed) (a b : Placed) (us vs : List Placed) → xs ++ a ∷ us ≡ ys ++ b ∷ vs
+pub in_order : (xs ys : List Placed) (a b : Placed) (us vs : List Placed)
+    → xs ++ a ∷ us ≡ ys ++ b ∷ vs
     → ((xs ≡ ys) × (a ≡ b)) ⊎ (Behind xs a ys ⊎ Behind ys b xs)
 in_order [] [] a b us vs e = let same : a ≡ b = cc in inl (refl, same)
 in_order [] (y ∷ ys) a b us vs e =
@@ -32,19 +36,22 @@ in_order (x ∷ xs) (y ∷ ys) a b us vs e =
 
 -- what begins with more tokens begins with fewer
 fewer : (L : Language) (xs ys : List Placed) (a : Placed) (more : List Placed)
-    → ys ≡ (xs ++ a ∷ []) ++ more → Begins L 0 (words_of ys) → Begins L 0 (words_of xs ++ a.token ∷ [])
+    → ys ≡ (xs ++ a ∷ []) ++ more → Begins L 0 (words_of ys)
+    → Begins L 0 (words_of xs ++ a.token ∷ [])
 fewer L xs ys a more e b =
     let words : words_of ys ≡ (words_of xs ++ a.token ∷ []) ++ words_of more =
-    ap words_of e ∙ words-append (xs ++ a ∷ []) more ∙ ap (λ us. us ++ words_of more) (words-append xs (a ∷ [])) in
-    let P : List Token → Type 0 = L 0 in
-    (
+    ap words_of e ∙ words-append (xs ++ a ∷ []) more
+    ∙ ap (λ us. us ++ words_of more) (words-append xs (a ∷ [])) in
+    let P : List Token → Type 0 = L 0 in (
       words_of more ++ b.0,
-      subst P (ap (λ us. us ++ b.0) words ∙ append_assoc (words_of xs ++ a.token ∷ []) (words_of more) b.0) b.1,
+      subst P (ap (λ us. us ++ b.0) words ∙ append_assoc (words_of xs ++ a.token ∷ [])
+          (words_of more) b.0) b.1,
     )
 
 -- ---- the reason
 
-other_number : (t : Token) (v w : List ℕ) → t ≡ Word v → t ≡ Word w → ¬ IsNumberWord v → IsNumberWord w → ⊥
+other_number : (t : Token) (v w : List ℕ) → t ≡ Word v → t ≡ Word w → ¬ IsNumberWord v
+    → IsNumberWord w → ⊥
 other_number t v w e d none is =
     let same : v ≡ w = cc in none (subst IsNumberWord (sym same) is)
 
@@ -85,20 +92,25 @@ one_reason L ts t place (Shape p) (Shape q) h k = ap Shape (h.0 ∙ sym k.0)
 
 -- ---- both
 
-one_stop : (L : Language) (ts : List Placed) (f g : BpFault) → StopsAt L ts f → StopsAt L ts g → f ≡ g
+one_stop : (L : Language) (ts : List Placed) (f g : BpFault) → StopsAt L ts f → StopsAt L ts g
+    → f ≡ g
 one_stop L ts f g s r =
     elim (in_order s.front r.front s.token r.token s.behind r.behind (sym s.parts ∙ r.parts)) [
       | inl same ↦
-          let P : List Placed → Placed → Type 0 = λ us t. IsTokenFault L (words_of us) t.token t.place f in
-          let why : P r.front r.token = subst (P r.front) same.1 (subst (λ us. P us s.token) same.0 s.why) in
+          let P : List Placed → Placed → Type 0 =
+          λ us t. IsTokenFault L (words_of us) t.token t.place f in
+          let why : P r.front r.token =
+          subst (P r.front) same.1 (subst (λ us. P us s.token) same.0 s.why) in
           one_reason L (words_of r.front) r.token.token r.token.place f g why r.why
       | inr (inl m) ↦ absurd (s.stops (fewer L s.front r.front s.token m.0 m.1 r.begins))
       | inr (inr m) ↦ absurd (r.stops (fewer L r.front s.front r.token m.0 m.1 s.begins))
     ]
 
-goes_on : (L : Language) (ts : List Placed) (f : BpFault) → StopsAt L ts f → Begins L 0 (words_of ts) → ⊥
+goes_on : (L : Language) (ts : List Placed) (f : BpFault) → StopsAt L ts f
+    → Begins L 0 (words_of ts) → ⊥
 goes_on L ts f s b =
-    s.stops (fewer L s.front ts s.token s.behind (s.parts ∙ sym (append_assoc s.front (s.token ∷ []) s.behind)) b)
+    s.stops (fewer L s.front ts s.token s.behind
+    (s.parts ∙ sym (append_assoc s.front (s.token ∷ []) s.behind)) b)
 
 pub one_fault : (L : Language) (ts : List Placed) (end : ℕ) (f g : BpFault)
     → HasTokenFault L ts end f → HasTokenFault L ts end g → f ≡ g

@@ -1,13 +1,18 @@
 -- The tokens of texts that are put together.
-use Rattle.std.proofs.Common.{◌≡◌, ◌≤◌, nat_le, ℕ, ◌+◌, ◌==◌, ◌&&◌, Bool, true, false, not, cond, IsTrue, List, [], ◌∷◌, ◌++◌, map, refl, sym, ap, subst, ◌∙◌, append_assoc, arith, length, inl, inr, All}
+use Rattle.std.proofs.Common.{◌≡◌, ◌≤◌, nat_le, ℕ, ◌+◌, ◌==◌, ◌&&◌, Bool, true, false, not, cond}
+use Rattle.std.proofs.Common.{IsTrue, List, [], ◌∷◌, ◌++◌, map, refl, sym, ap, subst, ◌∙◌}
+use Rattle.std.proofs.Common.{append_assoc, arith, length, All}
 use Rattle.std.specs.List.{list_all, flat_map}
+use Rattle.std.proofs.lemmas.Bool.{and_parts}
+use Rattle.std.proofs.lemmas.List.{append-nil}
 use Rattle.std.proofs.lemmas.List.Elements.{All-head, All-tail}
 use Rattle.std.proofs.lemmas.List.Folds.{list_all-append}
 use Rattle.omos_base.specs.SymNames.{IsSymName}
 use Rattle.omos_base.specs.Paths.{IsPartByte, IsPart, IsPath}
 use Rattle.omos_model.specs.Names.{Name, is_name_byte}
 use Rattle.omos_model.proofs.Tested.{name_law}
-use Rattle.bp_tree.specs.Tokens.{Token, Open, Close, Word, Placed, tokens_from, in_front, grown, begins_word, is_blank, mark}
+use Rattle.bp_tree.specs.Tokens.{Token, Open, Close, Word, Placed, tokens_from, in_front, grown}
+use Rattle.bp_tree.specs.Tokens.{begins_word, is_blank, mark}
 use Rattle.bp_tree.specs.Texts.{words_of}
 use Rattle.bp_tree.specs.Canonical.{each_spaced, spaced}
 use Rattle.bp_tree.proofs.Runs.{word_first}
@@ -59,6 +64,9 @@ AreApart text = (rest : List ℕ) → begins_word rest ≡ false → begins_word
 pub spells_nothing : Spells [] []
 spells_nothing rest e = refl
 
+pub spells_whole : (t : List ℕ) (ws : List Token) → Spells t ws → words t ≡ ws
+spells_whole t ws h = ap words (sym (append-nil t)) ∙ h [] refl ∙ append-nil ws
+
 pub spells_joined : (t u : List ℕ) (ws vs : List Token) → Spells t ws → Spells u vs → AreApart u
     → Spells (t ++ u) (ws ++ vs)
 spells_joined t u ws vs h k apart rest e =
@@ -87,13 +95,12 @@ spells_word (b ∷ run) h rest e =
     ap words_of (word_first b run rest 0 h.1 e)
     ∙ ap (λ us. Word (b ∷ run) ∷ us) (anywhere false (0 + length (b ∷ run)) 0 rest)
 
-last : (a b : Bool) → (a && b) ≡ true → b ≡ true
-last true b h = h
-last false b h = absurd cc
-
 pub name_wordly : (w : Name) → IsSymName w → IsWordly w
-name_wordly w h =
-    (h.0.0, last (nat_le 1 (length w) && nat_le (length w) 1024) (list_all is_name_byte w) ((name_law w).1 h))
+name_wordly w h = (
+  h.0.0,
+  (and_parts (nat_le 1 (length w) && nat_le (length w) 1024) (list_all is_name_byte w)
+      ((name_law w).1 h)).1,
+)
 
 part_byte : (b : ℕ) → IsPartByte b → is_name_byte b ≡ true
 part_byte b h = grind arith
@@ -110,7 +117,8 @@ parts_bytes (p ∷ ps) h =
     list_all-append is_name_byte p (flat_map (λ part. 47 ∷ part) ps)
     ∙ rw (part_bytes p (All-head IsPart p ps h).2, parts_bytes ps (All-tail IsPart p ps h)) refl
 
-long_path : (parts : List (List ℕ)) → 1 ≤ length parts → 1 ≤ length (flat_map (λ part. 47 ∷ part) parts)
+long_path : (parts : List (List ℕ)) → 1 ≤ length parts
+    → 1 ≤ length (flat_map (λ part. 47 ∷ part) parts)
 long_path [] h = h
 long_path (p ∷ ps) h = omega arith
 
@@ -126,7 +134,8 @@ spells_named w t ws is h apart = spells_joined w t (Word w ∷ []) ws (spells_wo
 pub spells_as : (t u : List ℕ) (ws : List Token) → Spells u ws → t ≡ u → Spells t ws
 spells_as t u ws h e = let P : List ℕ → Type 0 = λ v. Spells v ws in subst P (sym e) h
 
-pub spells_closed : (t : List ℕ) (ws : List Token) → Spells t ws → Spells (t ++ 41 ∷ []) (ws ++ Close ∷ [])
+pub spells_closed : (t : List ℕ) (ws : List Token) → Spells t ws
+    → Spells (t ++ 41 ∷ []) (ws ++ Close ∷ [])
 spells_closed t ws h =
     spells_joined t (41 ∷ []) ws (Close ∷ []) h (spells_close [] [] spells_nothing) (λ rest e. refl)
 
@@ -144,7 +153,8 @@ spells_argument w t ws is h = spells_named w (32 ∷ t) ws is (spells_blank t ws
 
 -- ---- lists
 
-pub each_apart : (texts : List (List ℕ)) (t : List ℕ) → AreApart t → AreApart (each_spaced texts ++ t)
+pub each_apart : (texts : List (List ℕ)) (t : List ℕ) → AreApart t
+    → AreApart (each_spaced texts ++ t)
 each_apart [] t apart rest e = apart rest e
 each_apart (u ∷ us) t apart rest e = refl
 

@@ -45,5 +45,10 @@ IsStartName (Named name) = IsSymName name
 IsStartName NoEntry = Unit {0}
 
 -- its names are names, and its paths are paths
+pub record IsNamedExpr (x : Expr) : Type 0 where
+  pub names : All IsSymName (names_in x)
+  pub paths : All IsPath (paths_in x)
+
+-- and its start's
 abbrev pub IsNamed : ImageParts → Type 0
-IsNamed i = IsStartName i.start × All IsSymName (names_in i.body) × All IsPath (paths_in i.body)
+IsNamed i = IsStartName i.start × IsNamedExpr i.body

@@ -1,5 +1,6 @@
 use Rattle.std.proofs.Common.{arith}
-use Rattle.omos_model.specs.declared.refusal.BpFault.TheVariants.{Long, Byte, Shape, Deep, Number, Range}
+use Rattle.omos_model.specs.declared.refusal.BpFault.TheVariants.{Long, Byte, Shape, Deep, Number}
+use Rattle.omos_model.specs.declared.refusal.BpFault.TheVariants.{Range}
 use Rattle.bp_tree.specs.Tokens.{tokens_of}
 use Rattle.bp_tree.specs.Laws.{NotBothLaw}
 use Rattle.bp_tree.proofs.ImageFaults.{image_law, none_barred}

@@ -1,11 +1,15 @@
-use Rattle.std.proofs.Common.{◌≡◌, ◌≤◌, ◌<◌, ℕ, nat_le, Bool, true, false, List, [], ◌∷◌, ◌++◌, All, length, refl, ap, subst, ◌∙◌, sym, inl, inr, arith, ◌⊎◌, codes, append_assoc}
+use Rattle.std.proofs.Common.{◌≡◌, ◌≤◌, ◌<◌, ℕ, nat_le, Bool, true, false, List, [], ◌∷◌, ◌++◌, All}
+use Rattle.std.proofs.Common.{length, refl, ap, subst, ◌∙◌, sym, inl, inr, arith, ◌⊎◌}
+use Rattle.std.proofs.Common.{append_assoc}
 use Rattle.std.proofs.lemmas.List.{append-nil}
 use Rattle.std.proofs.lemmas.List.Elements.{All-nil, All-cons, All-append}
 use Rattle.omos_model.specs.declared.refusal.BpFault.{BpFault}
-use Rattle.omos_model.specs.declared.refusal.BpFault.TheVariants.{Long, Byte, Shape, Deep, Number, Range}
+use Rattle.omos_model.specs.declared.refusal.BpFault.TheVariants.{Long, Byte, Shape, Deep, Number}
+use Rattle.omos_model.specs.declared.refusal.BpFault.TheVariants.{Range}
 use Rattle.bp_tree.specs.Tokens.{Token, Open, Close, Word, Barred, Placed, tokens_of}
 use Rattle.bp_tree.specs.Texts.{words_of}
-use Rattle.bp_tree.specs.TextFaults.{Language, Begins, IsTokenFault, StopsAt, HasTokenFault, IsAllowed, IsBarredAt, images}
+use Rattle.bp_tree.specs.TextFaults.{Language, Begins, IsTokenFault, StopsAt, HasTokenFault}
+use Rattle.bp_tree.specs.TextFaults.{IsAllowed, IsBarredAt, images}
 use Rattle.bp_tree.specs.Laws.{NotNeitherLaw}
 use Rattle.bp_tree.proofs.Images.{any_image, token_fault}
 use Rattle.bp_tree.proofs.NameLists.{words-append}
@@ -16,11 +20,21 @@ use Rattle.bp_tree.proofs.laws.texts_lack_not_both.Goals as goal
 abbrev IsFaultless : Language → List Placed → ℕ → Type 0
 IsFaultless L ts end = (fault : BpFault) → HasTokenFault L ts end fault → ⊥
 
-stop_here : (L : Language) (ts front : List Placed) (t : Placed) (behind : List Placed) (fault : BpFault)
-    → ts ≡ front ++ t ∷ behind → Begins L 0 (words_of front) → (Begins L 0 (words_of front ++ t.token ∷ []) → ⊥)
+stop_here : (L : Language) (ts front : List Placed) (t : Placed) (behind : List Placed) (fault :
+    BpFault)
+    → ts ≡ front ++ t ∷ behind → Begins L 0 (words_of front)
+    → (Begins L 0 (words_of front ++ t.token ∷ []) → ⊥)
     → IsTokenFault L (words_of front) t.token t.place fault → StopsAt L ts fault
 stop_here L ts front t behind fault e begins stops why =
-    record { front = front; token = t; behind = behind; parts = e; begins = begins; stops = stops; why = why }
+    record {
+      front = front;
+      token = t;
+      behind = behind;
+      parts = e;
+      begins = begins;
+      stops = stops;
+      why = why;
+    }
 
 -- a token with which nothing begins has something wrong with it
 never_stops : (L : Language) (ts front : List Placed) (t : Placed) (behind : List Placed) (end : ℕ)
@@ -29,10 +43,16 @@ never_stops : (L : Language) (ts front : List Placed) (t : Placed) (behind : Lis
 never_stops L ts front t behind end e begins none stops =
     let stop : (fault : BpFault) → IsTokenFault L (words_of front) t.token t.place fault → ⊥ =
     λ fault why. none fault (inl (stop_here L ts front t behind fault e begins stops why)) in
-    stop (Shape t.place)
-    (refl, (λ d. stop (Deep t.place) (refl, d)), (λ n. stop (Number t.place) (refl, n)), λ r. stop (Range t.place) (refl, r))
+    stop (Shape t.place) (
+      refl,
+      (λ d. stop (Deep t.place) (refl, d)),
+      (λ n. stop (Number t.place) (refl, n)),
+      λ r. stop
+          (Range t.place) (refl, r),
+    )
 
-walk : (L : Language) (ts front behind : List Placed) (end : ℕ) → ts ≡ front ++ behind → Begins L 0 (words_of front)
+walk : (L : Language) (ts front behind : List Placed) (end : ℕ) → ts ≡ front ++ behind
+    → Begins L 0 (words_of front)
     → (L 0 (words_of ts) → ⊥) → IsFaultless L ts end → ⊥
 walk L ts front [] end e begins other none =
     let P : List Placed → Type 0 = λ us. Begins L 0 (words_of us) in
@@ -50,7 +70,8 @@ abbrev at_place : Token → ℕ → Placed
 at_place u place = record { token = u; place = place }
 
 one_allowed : (u : Token) (place : ℕ)
-    → ((byte : ℕ) × (at_place u place ≡ at_place (Barred byte) place)) ⊎ IsAllowed (at_place u place)
+    → ((byte : ℕ) × (at_place u place ≡ at_place (Barred byte) place)) ⊎ IsAllowed
+    (at_place u place)
 one_allowed Open place = inr (λ byte e. cc)
 one_allowed Close place = inr (λ byte e. cc)
 one_allowed (Word w) place = inr (λ byte e. cc)
@@ -61,10 +82,18 @@ search_barred : (ts front behind : List Placed) → ts ≡ front ++ behind → A
 search_barred ts front [] e all none = subst (All IsAllowed) (sym (e ∙ append-nil front)) all
 search_barred ts front (t ∷ behind) e all none =
     elim (one_allowed t.token t.place) [
-      | inl b ↦ absurd (none t.place (front, b.0, behind, e ∙ ap (λ u. front ++ u ∷ behind) b.1, all))
+      | inl b ↦ absurd (none t.place (
+        front,
+        b.0,
+        behind,
+        e ∙ ap
+            (λ u. front ++ u ∷ behind) b.1,
+        all,
+      ))
       | inr allowed ↦
           search_barred ts (front ++ t ∷ []) behind (e ∙ sym (append_assoc front (t ∷ []) behind))
-          (All-append IsAllowed front (t ∷ []) all (All-cons IsAllowed t [] allowed (All-nil IsAllowed))) none
+          (All-append IsAllowed front (t ∷ []) all
+          (All-cons IsAllowed t [] allowed (All-nil IsAllowed))) none
     ]
 
 -- ---- texts
@@ -83,7 +112,8 @@ law text no_image no_fault =
       | inl short ↦
           let allowed = search_barred (tokens_of text) [] (tokens_of text) refl (All-nil IsAllowed)
           (λ place b. no_fault (Byte place, (short, b))) in
-          walk images (tokens_of text) [] (tokens_of text) (length text) refl any_image (λ is. no_image is)
+          walk images (tokens_of text) [] (tokens_of text) (length text) refl any_image
+          (λ is. no_image is)
           (λ fault h. no_fault (fault, token_fault text fault short allowed h))
     ]
 

@@ -1,4 +1,4 @@
-use Rattle.std.proofs.Common.{◌≡◌, ℕ, List, [], ◌∷◌, ◌++◌, drop, refl, sym, ap, ◌∙◌}
+use Rattle.std.proofs.Common.{◌≡◌, ℕ, List, [], ◌∷◌, ◌++◌, drop, sym, ap, ◌∙◌}
 use Rattle.omos_model.specs.ImageParts.{ImageParts, image_of}
 use Rattle.bp_tree.specs.Tokens.{Token, Close, tokens_of}
 use Rattle.bp_tree.specs.Texts.{words_of}
@@ -7,7 +7,8 @@ use Rattle.bp_tree.specs.Laws.{OneImageLaw}
 use Rattle.bp_tree.proofs.Readings.{expr_kind, range_kind, one_start, one_range, one_expr}
 use Rattle.bp_tree.proofs.laws.texts_say_one_image.Goals as goal
 
-one_image : (n : ℕ) (ts : List Token) (a b : ImageParts) → IsImageOf n ts a → IsImageOf n ts b → a ≡ b
+one_image : (n : ℕ) (ts : List Token) (a b : ImageParts) → IsImageOf n ts a → IsImageOf n ts b
+    → a ≡ b
 one_image n ts a b h k =
     let body = h.2 ++ Close ∷ [] in
     let body' = k.2 ++ Close ∷ [] in
