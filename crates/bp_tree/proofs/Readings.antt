@@ -19,7 +19,7 @@ use Rattle.bp_tree.specs.declared.form.Applied.{Applied}
 use Rattle.bp_tree.specs.declared.form.Applied.TheVariants as kind
 use Rattle.bp_tree.proofs.Digits.{one_number}
 use Rattle.bp_tree.proofs.Expressions.{form_named, opened_head}
-use Rattle.bp_tree.proofs.Headers.{header_kind, form_kind, opened_word}
+use Rattle.bp_tree.proofs.Headers.{word_in, part_kind}
 use Rattle.bp_tree.proofs.Samples.{expr_cases}
 
 -- ---- steps
@@ -203,22 +203,6 @@ expr_is_read (suc n) ts e r h =
 
 -- ---- the head of an image
 
-abbrev word_in : Token → Name
-word_in Open = []
-word_in Close = []
-word_in (Word w) = w
-word_in (Barred b) = []
-
--- which part of a head begins here, or none
-abbrev part_in : Token → Token → ℕ
-part_in Open t = header_kind (word_in t)
-part_in Close t = 0
-part_in (Word w) t = 0
-part_in (Barred b) t = 0
-
-abbrev part_kind : List Token → ℕ
-part_kind ts = part_in (get_or ts 0 Close) (get_or ts 1 Close)
-
 abbrev start_read : List Token → Start × List Token
 start_read ts =
     cond (part_kind ts == 1) (Named (word_in (get_or ts 2 Close)), drop 4 ts)
@@ -234,23 +218,6 @@ range_read ts =
       ),
       drop 5 ts,
     ) (None, ts)
-
-pub expr_kind : (n : ℕ) (ts : List Token) (e : Expr) (r : List Token) → IsExpr n ts e
-    → part_kind (ts ++ r) ≡ 0
-expr_kind n ts e r h =
-    elim (expr_cases n ts e h) [
-      | inl p ↦ ap (λ us. part_kind (us ++ r)) p.1
-      | inr o ↦
-          let k = opened_head o.0 (IsExpr o.0) ts e o.2 in
-          let P : List Token → Type 0 = λ us. IsOpened o.0 (IsExpr o.0) us e in
-          let w = opened_word o.0 k.0 e (subst P k.1 o.2) in
-          ap (λ us. part_kind (us ++ r)) (k.1 ∙ ap (λ us. Open ∷ us) w.2) ∙ form_kind w.0
-    ]
-
-pub range_kind : (ts : List Token) (lo hi : ℕ) (r : List Token) → IsRange ts lo hi → part_kind r ≡ 0
-    → (part_kind (ts ++ r) ≡ 0) ⊎ (part_kind (ts ++ r) ≡ 3)
-range_kind ts lo hi r (inl n) e = inl (ap (λ us. part_kind (us ++ r)) n.0 ∙ e)
-range_kind ts lo hi r (inr w) e = inr (ap (λ us. part_kind (us ++ r)) w.2)
 
 none_read : (r : List Token) → (part_kind r ≡ 0) ⊎ (part_kind r ≡ 3)
     → start_read r ≡ (Named (codes "_start"), r)

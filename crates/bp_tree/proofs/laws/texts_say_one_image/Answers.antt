@@ -4,7 +4,8 @@ use Rattle.bp_tree.specs.Tokens.{Token, Close, tokens_of}
 use Rattle.bp_tree.specs.Texts.{words_of}
 use Rattle.bp_tree.specs.Grammar.{IsImageOf}
 use Rattle.bp_tree.specs.Laws.{OneImageLaw}
-use Rattle.bp_tree.proofs.Readings.{expr_kind, range_kind, one_start, one_range, one_expr}
+use Rattle.bp_tree.proofs.Headers.{expr_kind, range_kind}
+use Rattle.bp_tree.proofs.Readings.{one_start, one_range, one_expr}
 use Rattle.bp_tree.proofs.laws.texts_say_one_image.Goals as goal
 
 one_image : (n : ℕ) (ts : List Token) (a b : ImageParts) → IsImageOf n ts a → IsImageOf n ts b
