@@ -338,3 +338,7 @@ one_opening ts after after' k k' o p =
     let q : o.0 ∷ o.1 ∷ after ≡ p.0 ∷ p.1 ∷ after' = sym o.2 ∙ p.2 in
     let same : o.1 ≡ p.1 = cc in
     let w : Word k ≡ Word k' = sym o.4 ∙ ap (λ t. t.token) same ∙ p.4 in cc
+
+pub opens_with : (ts after : List Placed) (k k' : List ℕ) → k ≡ k' → IsOpening ts k after
+    → IsOpening ts k' after
+opens_with ts after k k' e o = let P : List ℕ → Type 0 = λ w. IsOpening ts w after in subst P e o

@@ -34,7 +34,7 @@ NotBothLaw =
     (text : List ℕ) (image : ImageParts) (fault : BpFault) → IsText text image
     → length text ≤ 65536 → IsTextFault text fault → ⊥
 
--- no text says no image and has no fault
+-- no text lacks both an image that it says and a fault
 abbrev pub NotNeitherLaw : Type 0
 NotNeitherLaw =
     (text : List ℕ) → ¬ ((image : ImageParts) × IsText text image)

@@ -29,8 +29,8 @@ pub fn images_have_no_fault()
     ensures { NotBothLaw }
 {}
 
-/// No text says no image and has no fault.
-pub fn texts_lack_not_both()
+/// No text lacks both an image that it says and a fault.
+pub fn no_text_lacks_both()
     ensures { NotNeitherLaw }
 {}
 

@@ -13,7 +13,7 @@ use Rattle.bp_tree.specs.TextFaults.{IsAllowed, IsBarredAt, images}
 use Rattle.bp_tree.specs.Laws.{NotNeitherLaw}
 use Rattle.bp_tree.proofs.Images.{any_image, token_fault}
 use Rattle.bp_tree.proofs.NameLists.{words-append}
-use Rattle.bp_tree.proofs.laws.texts_lack_not_both.Goals as goal
+use Rattle.bp_tree.proofs.laws.no_text_lacks_both.Goals as goal
 
 -- ---- tokens
 
