@@ -15,12 +15,12 @@ use Rattle.bp_tree.specs.declared.form.Applied.TheVariants as kind
 use Rattle.bp_tree.specs.declared.stop.Stop.{Stop}
 use Rattle.bp_tree.specs.declared.stop.Stop.TheVariants.{Early, At}
 use Rattle.bp_tree.proofs.Samples.{expr_a, freeze_a, opened_a, path_is_expr, opened_is_expr, expr_cases, no_number_path, no_number_freeze}
-use Rattle.bp_tree.proofs.Failing.{Sample, IsNeverEmpty, completes, begins_with, head_of, fails_early, fails_shape, leads_step}
+use Rattle.bp_tree.proofs.Failing.{Sample, IsNeverEmpty, begins_with, fails_early, fails_at, fails_shape, leads_step}
 use Rattle.bp_tree.proofs.Opened.{both, apart, form_opens, opened_form}
 
 -- ---- the keyword
 
-abbrev form_named : List ℕ → Form
+abbrev pub form_named : List ℕ → Form
 form_named w =
     cond (same_name w (codes "merge")) form.Merge
     (cond (same_name w (codes "override")) form.Override
@@ -140,25 +140,14 @@ expr_shape room ts t after e path opens =
 -- there is no room for one more parenthesis
 pub expr_deep : (room : ℕ) (ts : List Placed) (t : Placed) (after : List Placed) → ts ≡ t ∷ after
     → t.token ≡ Open → room ≡ 0 → Fails (AnExpr room ∷ []) ts (At (Deep t.place))
-expr_deep room ts t after e opens none = record {
-  why = λ ss c.
-      let P : List Placed → Type 0 = λ us. WhyStops (AreSyms (AnExpr room ∷ ss)) us (At (Deep t.place)) in
-      let tail = Word (codes "freeze") ∷ Word (97 ∷ []) ∷ Word (47 ∷ 97 ∷ []) ∷ Close ∷ [] in
-      let one : room + 1 ≡ suc 0 = omega arith in
-      let deeper : IsExpr (room + 1) (Open ∷ tail) freeze_a =
-      subst (λ n. IsExpr n (Open ∷ tail) freeze_a) (sym one) (opened_is_expr 0 (Open ∷ tail) freeze_a (opened_a 0)) in
-      subst P (sym e) (record {
-        front = [];
-        token = t;
-        behind = after;
-        parts = refl;
-        begins = completes (AnExpr room) ss (expr_sample room) c 0;
-        stops = λ b.
-            let w = head_of (AnExpr room) ss t.token 0 (expr_full room) b in
-            expr_first (room + 0) t.token w.0 w.1.0 w.1.1 (λ p h _. let k : Open ≡ Word p = sym opens ∙ h in cc) (λ _ n. omega arith);
-        why = (refl, (opens, (1, rw opens (begins_with (AnExpr room) ss Open tail 1 (freeze_a, deeper) c))));
-      });
-}
+expr_deep room ts t after e opens none =
+    let tail = Word (codes "freeze") ∷ Word (97 ∷ []) ∷ Word (47 ∷ 97 ∷ []) ∷ Close ∷ [] in
+    let one : room + 1 ≡ suc 0 = omega arith in
+    let deeper : IsExpr (room + 1) (Open ∷ tail) freeze_a =
+    subst (λ n. IsExpr n (Open ∷ tail) freeze_a) (sym one) (opened_is_expr 0 (Open ∷ tail) freeze_a (opened_a 0)) in
+    fails_at (AnExpr room) ts t after (Deep t.place) (expr_sample room) e (expr_full room)
+    (λ w is. expr_first (room + 0) t.token w is.0 is.1 (λ p h _. let k : Open ≡ Word p = sym opens ∙ h in cc) (λ _ n. omega arith))
+    (λ ss c. (refl, (opens, (1, rw opens (begins_with (AnExpr room) ss Open tail 1 (freeze_a, deeper) c)))))
 
 path_front : (n : ℕ) (p : List ℕ) (ws front rest : List Token) (x : Expr) → Word p ∷ ws ≡ front ++ rest
     → IsExpr n front x → rest ≡ ws

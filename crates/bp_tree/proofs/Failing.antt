@@ -1,12 +1,13 @@
 -- Where a symbol is not there, and what is wrong.
 use Rattle.std.proofs.Common.{◌≡◌, ℕ, List, [], ◌∷◌, ◌++◌, refl, sym, subst, ◌⊎◌, inl, inr}
+use Rattle.omos_model.specs.declared.refusal.BpFault.{BpFault}
 use Rattle.omos_model.specs.declared.refusal.BpFault.TheVariants.{Shape}
 use Rattle.bp_tree.specs.Tokens.{Token, Open, Word, Placed}
-use Rattle.bp_tree.specs.TextFaults.{Begins, CallsForNumber, IsNumberWord}
+use Rattle.bp_tree.specs.TextFaults.{Begins, CallsForNumber, IsNumberWord, IsTokenFault}
 use Rattle.bp_tree.specs.Symbols.{Sym, IsSym, AreSyms, Completable, Fails, WhyStops}
 use Rattle.bp_tree.specs.declared.stop.Stop.{Stop}
 use Rattle.bp_tree.specs.declared.stop.Stop.TheVariants.{Early, At}
-use Rattle.bp_tree.proofs.Moves.{shape_fault, step}
+use Rattle.bp_tree.proofs.Moves.{step}
 
 -- something is the symbol
 abbrev pub Sample : Sym → Type 0
@@ -51,6 +52,25 @@ fails_early s ts sample none e = record {
       subst P (sym e) (completes s ss sample c 0, λ a. no_front s a.0 a.1 0 (none 0) a.2 a.3);
 }
 
+-- a token with which it doesn't begin, and what is wrong with it
+pub fails_at : (s : Sym) (ts : List Placed) (t : Placed) (after : List Placed) (fault : BpFault) → Sample s → ts ≡ t ∷ after
+    → IsNeverEmpty s → ((tail : List Token) → IsSym 0 s (t.token ∷ tail) → ⊥)
+    → ((ss : List Sym) → Completable ss → IsTokenFault (AreSyms (s ∷ ss)) [] t.token t.place fault)
+    → Fails (s ∷ []) ts (At fault)
+fails_at s ts t after fault sample e full stops why = record {
+  why = λ ss c.
+      let P : List Placed → Type 0 = λ us. WhyStops (AreSyms (s ∷ ss)) us (At fault) in
+      subst P (sym e) (record {
+        front = [];
+        token = t;
+        behind = after;
+        parts = refl;
+        begins = completes s ss sample c 0;
+        stops = λ b. let w = head_of s ss t.token 0 full b in stops w.0 w.1;
+        why = why ss c;
+      });
+}
+
 -- no number is called for: another word may stand there, or none
 abbrev pub IsUncalled : Sym → Type 0
 IsUncalled s =
@@ -65,22 +85,32 @@ uncalled s ss none (inl h) c calls =
 uncalled s ss none (inr h) c calls =
     let w = head_of s ss (Word calls.0.0) 0 none calls.0.1 in h calls.0.0 w.0 w.1
 
+-- neither depth nor a number counts at this token
+pub fails_plain : (s : Sym) (ts : List Placed) (t : Placed) (after : List Placed) → Sample s
+    → IsNeverEmpty s → ts ≡ t ∷ after
+    → ((tail : List Token) → IsSym 0 s (t.token ∷ tail) → ⊥)
+    → (t.token ≡ Open → (more : ℕ) (tail : List Token) → IsSym more s (Open ∷ tail) → ⊥)
+    → ((ss : List Sym) → Completable ss → (w : List ℕ) → t.token ≡ Word w
+    → CallsForNumber (AreSyms (s ∷ ss)) [] → ⊥)
+    → Fails (s ∷ []) ts (At (Shape t.place))
+fails_plain s ts t after sample none e stops deep calls =
+    fails_at s ts t after (Shape t.place) sample e none stops
+    (λ ss c. (
+      refl,
+      (λ d.
+          let Q : Token → Type 0 = λ u. Begins (AreSyms (s ∷ ss)) d.1.0 (u ∷ []) in
+          let w = head_of s ss Open d.1.0 none (subst Q d.0 d.1.1) in deep d.0 d.1.0 w.0 w.1),
+      (λ n. calls ss c n.1.0 n.1.1 n.0),
+      λ n. calls ss c n.1.0 n.1.1 n.0,
+    ))
+
 pub fails_shape : (s : Sym) (ts : List Placed) (t : Placed) (after : List Placed) → Sample s
     → IsNeverEmpty s → ts ≡ t ∷ after
     → ((tail : List Token) → IsSym 0 s (t.token ∷ tail) → ⊥)
     → (t.token ≡ Open → (more : ℕ) (tail : List Token) → IsSym more s (Open ∷ tail) → ⊥)
     → IsUncalled s → Fails (s ∷ []) ts (At (Shape t.place))
-fails_shape s ts t after sample none e stops deep calls = record {
-  why = λ ss c.
-      let P : List Placed → Type 0 = λ us. WhyStops (AreSyms (s ∷ ss)) us (At (Shape t.place)) in
-      subst P (sym e) (shape_fault (AreSyms (s ∷ ss)) t after (completes s ss sample c 0)
-      (λ b. let w = head_of s ss t.token 0 none b in stops w.0 w.1)
-      (λ d.
-      let Q : Token → Type 0 = λ u. Begins (AreSyms (s ∷ ss)) d.1.0 (u ∷ []) in
-      let w = head_of s ss Open d.1.0 none (subst Q d.0 d.1.1) in
-      deep d.0 d.1.0 w.0 w.1)
-      (λ word is calling. uncalled s ss none calls c calling));
-}
+fails_shape s ts t after sample none e stops deep calls =
+    fails_plain s ts t after sample none e stops deep (λ ss c w is calling. uncalled s ss none calls c calling)
 
 -- one token was taken
 pub leads_step : (now now' : List Sym) (t : Placed) (ts after : List Placed) → ts ≡ t ∷ after

@@ -1,14 +1,14 @@
 -- The start and the range of an image, which may be left out.
-use Rattle.std.proofs.Common.{◌≡◌, ℕ, ◌+◌, List, [], ◌∷◌, ◌++◌, refl, sym, ap, subst, ◌∙◌, ◌⊎◌, inl, inr, codes, arith, cond}
+use Rattle.std.proofs.Common.{get_or, ◌≤◌, ◌≡◌, ℕ, ◌+◌, List, [], ◌∷◌, ◌++◌, refl, sym, ap, subst, ◌∙◌, ◌⊎◌, inl, inr, codes, arith, cond}
 use Rattle.omos_base.specs.SymNames.{IsSymName}
-use Rattle.omos_model.specs.Names.{same_name}
+use Rattle.omos_model.specs.Names.{Name, same_name}
 use Rattle.omos_model.specs.declared.entry.Start.{Start}
 use Rattle.omos_model.specs.declared.entry.Start.TheVariants.{Named, NoEntry}
 use Rattle.omos_model.specs.declared.expr.Expr.{Expr}
-use Rattle.bp_tree.specs.Tokens.{Token, Open, Close, Word, Placed}
+use Rattle.bp_tree.specs.Tokens.{Token, Open, Close, Word, Barred, Placed}
 use Rattle.bp_tree.specs.Texts.{words_of}
 use Rattle.bp_tree.specs.TextFaults.{Language, Begins}
-use Rattle.bp_tree.specs.Grammar.{IsExpr, IsOpened, Merges, Overrides, Applies, IsStart, IsRange}
+use Rattle.bp_tree.specs.Grammar.{IsExpr, IsOpened, IsStart, IsRange}
 use Rattle.bp_tree.specs.Symbols.{Sym, It, AName, AStart, ARange, Low, AreSyms, keyword, Completable, Fails, AreRead, WhyStops}
 use Rattle.bp_tree.specs.Header.{IsOpening, IsPart, body_syms, range_syms, AreBounds}
 use Rattle.bp_tree.specs.declared.form.Form.{Form}
@@ -17,7 +17,7 @@ use Rattle.bp_tree.specs.declared.form.Applied.TheVariants as kind
 use Rattle.bp_tree.specs.declared.stop.Stop.{Stop}
 use Rattle.bp_tree.proofs.Expressions.{opened_head}
 use Rattle.bp_tree.proofs.Moves.{step}
-use Rattle.bp_tree.proofs.Opened.{op_args}
+use Rattle.bp_tree.proofs.Opened.{opened_form}
 use Rattle.bp_tree.proofs.Optional.{DiffersAtKeys, unless_key}
 use Rattle.bp_tree.proofs.Samples.{expr_cases, opened_is_expr, opened_a, freeze_a, no_number_freeze}
 use Rattle.bp_tree.proofs.Solids.{solid_end}
@@ -42,45 +42,9 @@ opened_lead K L k ts after stop o there back h =
 
 opened_word : (n : ℕ) (ws : List Token) (e : Expr) → IsOpened n (IsExpr n) (Open ∷ ws) e
     → (f : Form) × (body : List Token) × (ws ≡ Word (keyword f) ∷ body)
-opened_word n ws e (Merges inner xs eq is two are) =
-    let k : ws ≡ Word (codes "merge") ∷ (inner ++ Close ∷ []) = cc in (form.Merge, inner ++ Close ∷ [], k)
-opened_word n ws e (Overrides l r x y eq is px py) =
-    let k : ws ≡ Word (codes "override") ∷ (l ++ (r ++ Close ∷ [])) = cc in (form.Override, l ++ (r ++ Close ∷ []), k)
-opened_word n ws e (Applies op inner x eq is isop nest px) =
-    let a = op_args op 0 isop in
-    let k : Open ∷ ws ≡ Open ∷ Word (keyword (form.Apply a.0)) ∷ (a.1 ++ (inner ++ Close ∷ [])) =
-    eq ∙ ap (λ us. Open ∷ (us ++ (inner ++ Close ∷ []))) a.2 in
-    let w : ws ≡ Word (keyword (form.Apply a.0)) ∷ (a.1 ++ (inner ++ Close ∷ [])) = cc in
-    (form.Apply a.0, a.1 ++ (inner ++ Close ∷ []), w)
-
-expr_word : (more : ℕ) (k : List ℕ) (ws front rest : List Token) (x : Expr) (n : ℕ) → Open ∷ Word k ∷ ws ≡ front ++ rest
-    → IsExpr n front x → (f : Form) × (k ≡ keyword f)
-expr_word more k ws front rest x n e is =
-    elim (expr_cases n front x is) [
-      | inl p ↦ let q : Open ∷ Word k ∷ ws ≡ Word p.0 ∷ rest = e ∙ ap (λ us. us ++ rest) p.1 in absurd cc
-      | inr o ↦
-          let h = opened_head o.0 (IsExpr o.0) front x o.2 in
-          let P : List Token → Type 0 = λ us. IsOpened o.0 (IsExpr o.0) us x in
-          let w = opened_word o.0 h.0 x (subst P h.1 o.2) in
-          let q : Open ∷ Word k ∷ ws ≡ Open ∷ Word (keyword w.0) ∷ (w.1 ++ rest) =
-          e ∙ ap (λ us. us ++ rest) (h.1 ∙ ap (λ us. Open ∷ us) w.2) in
-          let same : k ≡ keyword w.0 = cc in (w.0, same)
-    ]
-
-body_word : (more : ℕ) (k : List ℕ) (ws : List Token) → AreSyms body_syms more (Open ∷ Word k ∷ ws) → (f : Form) × (k ≡ keyword f)
-body_word more k ws h = expr_word more k ws h.0 h.1 h.3.0 (63 + more) h.2 h.3.1
-
-range_word : (more : ℕ) (k : List ℕ) (ws : List Token) → AreSyms range_syms more (Open ∷ Word k ∷ ws)
-    → (k ≡ codes "range") ⊎ ((f : Form) × (k ≡ keyword f))
-range_word more k ws h =
-    elim h.3.2 [
-      | inl n ↦
-          let q : Open ∷ Word k ∷ ws ≡ h.1 = h.2 ∙ ap (λ us. us ++ h.1) n.0 in
-          inr (body_word more k ws (subst (AreSyms body_syms more) (sym q) h.4))
-      | inr r ↦
-          let q : Open ∷ Word k ∷ ws ≡ Open ∷ Word (codes "range") ∷ Word r.0 ∷ Word r.1 ∷ Close ∷ h.1 = h.2 ∙ ap (λ us. us ++ h.1) r.2 in
-          let same : k ≡ codes "range" = cc in inl same
-    ]
+opened_word n ws e is =
+    let P : ℕ → Type 0 = λ m. IsOpened m (IsExpr m) (Open ∷ ws) e in
+    let o = opened_form n 0 ws e (subst P (omega arith) is) in (o.0, o.1, o.2)
 
 -- which word of a header it is, or none
 abbrev header_kind : List ℕ → ℕ
@@ -98,17 +62,50 @@ form_kind (form.Apply kind.Hide) = refl
 form_kind (form.Apply kind.Show) = refl
 form_kind (form.Apply kind.CopyAs) = refl
 
-apart_kinds : (v w : List ℕ) (m n : ℕ) → header_kind v ≡ m → header_kind w ≡ n → (m ≡ n → ⊥) → v ≡ w → ⊥
-apart_kinds v w m n a b other e = other (sym a ∙ ap header_kind e ∙ b)
+abbrev pub word_in : Token → Name
+word_in Open = []
+word_in Close = []
+word_in (Word w) = w
+word_in (Barred b) = []
 
-no_form : (k : List ℕ) → (k ≡ codes "entry") ⊎ ((k ≡ codes "no_entry") ⊎ (k ≡ codes "range")) → (f : Form) → k ≡ keyword f → ⊥
-no_form k (inl h) f e = apart_kinds (codes "entry") (keyword f) 1 0 refl (form_kind f) (λ q. omega (arith, q)) (sym h ∙ e)
-no_form k (inr (inl h)) f e = apart_kinds (codes "no_entry") (keyword f) 2 0 refl (form_kind f) (λ q. omega (arith, q)) (sym h ∙ e)
-no_form k (inr (inr h)) f e = apart_kinds (codes "range") (keyword f) 3 0 refl (form_kind f) (λ q. omega (arith, q)) (sym h ∙ e)
+-- which part of a head begins here, or none
+abbrev pub part_in : Token → Token → ℕ
+part_in Open t = header_kind (word_in t)
+part_in Close t = 0
+part_in (Word w) t = 0
+part_in (Barred b) t = 0
 
-other_word : (v w : List ℕ) (us ws : List Token) (m n : ℕ) → header_kind v ≡ m → header_kind w ≡ n → (m ≡ n → ⊥)
-    → Open ∷ Word v ∷ us ≡ Open ∷ Word w ∷ ws → ⊥
-other_word v w us ws m n a b other e = let same : v ≡ w = cc in apart_kinds v w m n a b other same
+abbrev pub part_kind : List Token → ℕ
+part_kind ts = part_in (get_or ts 0 Close) (get_or ts 1 Close)
+
+pub expr_kind : (n : ℕ) (ts : List Token) (e : Expr) (r : List Token) → IsExpr n ts e
+    → part_kind (ts ++ r) ≡ 0
+expr_kind n ts e r h =
+    elim (expr_cases n ts e h) [
+      | inl p ↦ ap (λ us. part_kind (us ++ r)) p.1
+      | inr o ↦
+          let k = opened_head o.0 (IsExpr o.0) ts e o.2 in
+          let P : List Token → Type 0 = λ us. IsOpened o.0 (IsExpr o.0) us e in
+          let w = opened_word o.0 k.0 e (subst P k.1 o.2) in
+          ap (λ us. part_kind (us ++ r)) (k.1 ∙ ap (λ us. Open ∷ us) w.2) ∙ form_kind w.0
+    ]
+
+pub range_kind : (ts : List Token) (lo hi : ℕ) (r : List Token) → IsRange ts lo hi → part_kind r ≡ 0
+    → (part_kind (ts ++ r) ≡ 0) ⊎ (part_kind (ts ++ r) ≡ 3)
+range_kind ts lo hi r (inl n) e = inl (ap (λ us. part_kind (us ++ r)) n.0 ∙ e)
+range_kind ts lo hi r (inr w) e = inr (ap (λ us. part_kind (us ++ r)) w.2)
+
+body_kind : (more : ℕ) (ws : List Token) → AreSyms body_syms more ws → part_kind ws ≡ 0
+body_kind more ws h = ap part_kind h.2 ∙ expr_kind (63 + more) h.0 h.3.0 h.1 h.3.1
+
+-- no start stands where a range or an expression does
+no_start_word : (more : ℕ) (ws : List Token) (n : ℕ) → part_kind ws ≡ n → 1 ≤ n → n ≤ 2
+    → AreSyms range_syms more ws → ⊥
+no_start_word more ws n is low high h =
+    elim (range_kind h.0 h.3.0 h.3.1 h.1 h.3.2 (body_kind more h.1 h.4)) [
+      | inl z ↦ omega (arith, ap part_kind h.2)
+      | inr t ↦ omega (arith, ap part_kind h.2)
+    ]
 
 -- ---- an expression may begin here
 
@@ -180,8 +177,9 @@ range_lead ts after o stop h =
     elim a.3.2 [
       | inl n ↦
           let q : Open ∷ Word (codes "range") ∷ ws ≡ a.1 = a.2 ∙ ap (λ us. us ++ a.1) n.0 in
-          let w = body_word more (codes "range") ws (subst (AreSyms body_syms more) (sym q) a.4) in
-          absurd (no_form (codes "range") (inr (inr refl)) w.0 w.1)
+          let z : 3 ≡ 0 = body_kind more (Open ∷ Word (codes "range") ∷ ws)
+          (subst (AreSyms body_syms more) (sym q) a.4) in
+          absurd (omega arith)
       | inr r ↦
           let q : Open ∷ Word (codes "range") ∷ ws ≡ Open ∷ Word (codes "range") ∷ Word r.0 ∷ Word r.1 ∷ Close ∷ a.1 = a.2 ∙ ap (λ us. us ++ a.1) r.2 in
           let k : ws ≡ Word r.0 ∷ Word r.1 ∷ Close ∷ a.1 = cc in
@@ -247,29 +245,18 @@ start_absent ts name is none = record {
       (codes "freeze") range_freeze no_number_freeze h;
 }
 
-no_start_word : (more : ℕ) (k : List ℕ) (ws : List Token) → IsStartKey k → AreSyms range_syms more (Open ∷ Word k ∷ ws) → ⊥
-no_start_word more k ws (inl h) a =
-    elim (range_word more k ws a) [
-      | inl r ↦ apart_kinds (codes "entry") (codes "range") 1 3 refl refl (λ q. omega (arith, q)) (sym h ∙ r)
-      | inr f ↦ no_form k (inl h) f.0 f.1
-    ]
-no_start_word more k ws (inr h) a =
-    elim (range_word more k ws a) [
-      | inl r ↦ apart_kinds (codes "no_entry") (codes "range") 2 3 refl refl (λ q. omega (arith, q)) (sym h ∙ r)
-      | inr f ↦ no_form k (inr (inl h)) f.0 f.1
-    ]
-
 entry_front : (more : ℕ) (ws front rest : List Token) (s : Start) → Open ∷ Word (codes "entry") ∷ ws ≡ front ++ rest → IsStart front s
     → AreSyms range_syms more rest → AreSyms (AName ∷ It Close ∷ range_syms) more ws
 entry_front more ws front rest (Named name) e (inl n) a =
     let q : Open ∷ Word (codes "entry") ∷ ws ≡ rest = e ∙ ap (λ us. us ++ rest) n.0 in
-    absurd (no_start_word more (codes "entry") ws (inl refl) (subst (AreSyms range_syms more) (sym q) a))
+    absurd (no_start_word more (Open ∷ Word (codes "entry") ∷ ws) 1 refl (omega arith) (omega arith)
+    (subst (AreSyms range_syms more) (sym q) a))
 entry_front more ws front rest (Named name) e (inr n) a =
     let q : Open ∷ Word (codes "entry") ∷ ws ≡ Open ∷ Word (codes "entry") ∷ Word name ∷ Close ∷ rest = e ∙ ap (λ us. us ++ rest) n.0 in
     let k : ws ≡ Word name ∷ Close ∷ rest = cc in
     (Word name ∷ [], Close ∷ rest, k, (name, refl, n.1), (Close ∷ [], rest, refl, refl, a))
 entry_front more ws front rest NoEntry e n a =
-    absurd (other_word (codes "entry") (codes "no_entry") ws (Close ∷ rest) 1 2 refl refl (λ q. omega (arith, q)) (e ∙ ap (λ us. us ++ rest) n))
+    absurd (omega (arith, ap part_kind (e ∙ ap (λ us. us ++ rest) n)))
 
 entry_lead : (ts after : List Placed) → IsOpening ts (codes "entry") after → (stop : Stop)
     → WhyStops (AreSyms (AName ∷ It Close ∷ range_syms)) after stop → WhyStops (AreSyms start_syms) ts stop
@@ -307,9 +294,10 @@ none_front : (more : ℕ) (ws front rest : List Token) (s : Start) → Open ∷ 
     → AreSyms range_syms more rest → AreSyms (It Close ∷ range_syms) more ws
 none_front more ws front rest (Named name) e (inl n) a =
     let q : Open ∷ Word (codes "no_entry") ∷ ws ≡ rest = e ∙ ap (λ us. us ++ rest) n.0 in
-    absurd (no_start_word more (codes "no_entry") ws (inr refl) (subst (AreSyms range_syms more) (sym q) a))
+    absurd (no_start_word more (Open ∷ Word (codes "no_entry") ∷ ws) 2 refl (omega arith) (omega arith)
+    (subst (AreSyms range_syms more) (sym q) a))
 none_front more ws front rest (Named name) e (inr n) a =
-    absurd (other_word (codes "no_entry") (codes "entry") ws (Word name ∷ Close ∷ rest) 2 1 refl refl (λ q. omega (arith, q)) (e ∙ ap (λ us. us ++ rest) n.0))
+    absurd (omega (arith, ap part_kind (e ∙ ap (λ us. us ++ rest) n.0)))
 none_front more ws front rest NoEntry e n a =
     let q : Open ∷ Word (codes "no_entry") ∷ ws ≡ Open ∷ Word (codes "no_entry") ∷ Close ∷ rest = e ∙ ap (λ us. us ++ rest) n in
     let k : ws ≡ Close ∷ rest = cc in (Close ∷ [], rest, k, refl, a)
@@ -350,3 +338,7 @@ one_opening ts after after' k k' o p =
     let q : o.0 ∷ o.1 ∷ after ≡ p.0 ∷ p.1 ∷ after' = sym o.2 ∙ p.2 in
     let same : o.1 ≡ p.1 = cc in
     let w : Word k ≡ Word k' = sym o.4 ∙ ap (λ t. t.token) same ∙ p.4 in cc
+
+pub opens_with : (ts after : List Placed) (k k' : List ℕ) → k ≡ k' → IsOpening ts k after
+    → IsOpening ts k' after
+opens_with ts after k k' e o = let P : List ℕ → Type 0 = λ w. IsOpening ts w after in subst P e o

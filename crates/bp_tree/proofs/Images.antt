@@ -1,5 +1,6 @@
 -- Whole images, and whole texts.
-use Rattle.std.proofs.Common.{◌≡◌, ◌≤◌, ℕ, ◌+◌, Bool, true, ◌&&◌, nat_le, List, [], ◌∷◌, ◌++◌, All, refl, sym, ap, subst, ◌∙◌, inl, inr, codes, arith, append_assoc, length}
+use Rattle.std.proofs.Common.{◌≡◌, ◌≤◌, ℕ, ◌+◌, true, ◌&&◌, nat_le, List, [], ◌∷◌, ◌++◌, All, refl, sym, ap, subst, ◌∙◌, inl, inr, codes, arith, append_assoc, length}
+use Rattle.std.proofs.lemmas.Bool.{and_from}
 use Rattle.std.proofs.lemmas.List.{append-nil}
 use Rattle.std.proofs.lemmas.List.Elements.{All-nil, All-cons, All-append}
 use Rattle.omos_model.specs.ImageParts.{image_of, is_range, is_formed, nesting, IsImage}
@@ -9,7 +10,7 @@ use Rattle.omos_model.specs.declared.refusal.BpFault.{BpFault}
 use Rattle.omos_model.specs.declared.refusal.BpFault.TheVariants.{Long, Byte, Shape, Deep, Number, Range}
 use Rattle.bp_tree.specs.Tokens.{Token, Open, Close, Word, Barred, Placed, tokens_of}
 use Rattle.bp_tree.specs.Texts.{words_of}
-use Rattle.bp_tree.specs.TextFaults.{images, IsAllowed, IsBarredAt, HasTokenFault, IsTextFault}
+use Rattle.bp_tree.specs.TextFaults.{Begins, images, IsAllowed, IsBarredAt, HasTokenFault, IsTextFault}
 use Rattle.bp_tree.specs.Grammar.{IsExpr, IsImageOf, IsStart, IsRange}
 use Rattle.bp_tree.specs.Symbols.{It, AnExpr, AStart, ARange, AreSyms, Completable, Fails, AreRead, WhyStops}
 use Rattle.bp_tree.specs.Header.{IsPart, HasHead, body_syms, range_syms, image_syms}
@@ -17,7 +18,8 @@ use Rattle.bp_tree.specs.declared.stop.Stop.{Stop}
 use Rattle.bp_tree.specs.declared.stop.Stop.TheVariants.{At}
 use Rattle.bp_tree.proofs.Headers.{range_open, no_start}
 use Rattle.bp_tree.proofs.Lawful.{expr_fits}
-use Rattle.bp_tree.proofs.Moves.{same, shape_fault}
+use Rattle.bp_tree.proofs.Moves.{shape_fault}
+use Rattle.bp_tree.proofs.Sequences.{same}
 use Rattle.bp_tree.proofs.NameLists.{words-append}
 use Rattle.bp_tree.proofs.Solids.{solid_it}
 
@@ -93,6 +95,12 @@ Opened ts a = AreRead (It Open ∷ []) (λ ws. ws ≡ Open ∷ []) ts a
 
 abbrev Named : List Placed → List Placed → Type 0
 Named a b = AreRead (It (Word (codes "image")) ∷ []) (λ ws. ws ≡ Word (codes "image") ∷ []) a b
+
+pub any_image : Begins images 0 []
+any_image =
+    let word = Word (codes "image") in
+    let named = solid_it word (AStart ∷ range_syms) start_solid in
+    let b = solid_it Open (It word ∷ AStart ∷ range_syms) named 0 in (b.0, to_image 0 b.0 b.1)
 
 pub image_stops : (ts a : List Placed) (stop : Stop) → Opened ts a → Fails (It (Word (codes "image")) ∷ []) a stop
     → WhyStops (AreSyms image_syms) ts stop
@@ -172,9 +180,6 @@ whole s lo hi x ts a b c h r q none =
     ∙ ap (λ us. Open ∷ Word (codes "image") ∷ us) (append_assoc v.0 v.1 (words_of r.front ++ Close ∷ [])) in
     (v.0, v.1, words_of r.front, all, v.3, v.4, r.value)
 
-three : (a b c : Bool) → a ≡ true → b ≡ true → c ≡ true → (a && b && c) ≡ true
-three a b c e f g = rw (e, f, g) refl
-
 range_true : (ws : List Token) (lo hi : ℕ) → IsRange ws lo hi → is_range lo hi ≡ true
 range_true ws lo hi h =
     elim h [
@@ -188,7 +193,8 @@ lawful s lo hi x ts a b h r =
     let fits = expr_fits 63 (words_of r.front) x r.value in
     let low : nesting x ≤ 63 = fits.1 in
     let deep : nat_le (nesting x + 1) 64 ≡ true = grind (arith, low) in
-    three (is_range lo hi) (is_formed x) (nat_le (nesting x + 1) 64) (range_true h.value.1 lo hi h.value.4) fits.0 deep
+    and_from (is_range lo hi && is_formed x) (nat_le (nesting x + 1) 64)
+    (and_from (is_range lo hi) (is_formed x) (range_true h.value.1 lo hi h.value.4) fits.0) deep
 
 -- ---- texts
 

@@ -19,3 +19,9 @@ mod Forms
 mod Sights
 mod Singles
 mod Runs
+mod Spelled
+mod Written
+mod ImageFaults
+mod SoleFaults
+mod Readings
+mod NamedForms

@@ -18,23 +18,22 @@ pub calls_moved : (K L : Language) (ts us : List Token) → Onward K ts L us →
 calls_moved K L ts us f g c =
     ((c.0.0, f 0 (Word c.0.0) c.0.1), λ word b. c.1 word (g 0 (Word word) b))
 
-deep_moved : (K L : Language) (ts us : List Token) (t : Token) → Onward K ts L us
-    → IsTooDeep K ts t → IsTooDeep L us t
-deep_moved K L ts us t f d = (d.0, (d.1.0, f d.1.0 t d.1.1))
-
+-- where a token and a call for a number say the same after ts and us
 pub fault_moved : (K L : Language) (ts us : List Token) (t : Token) (place : ℕ) (fault : BpFault)
-    → Onward K ts L us → Onward L us K ts
+    → ((more : ℕ) → Begins K more (ts ++ t ∷ []) → Begins L more (us ++ t ∷ []))
+    → ((more : ℕ) → Begins L more (us ++ t ∷ []) → Begins K more (ts ++ t ∷ []))
+    → (CallsForNumber K ts → CallsForNumber L us) → (CallsForNumber L us → CallsForNumber K ts)
     → IsTokenFault K ts t place fault → IsTokenFault L us t place fault
-fault_moved K L ts us t place Long f g h = h
-fault_moved K L ts us t place (Byte p) f g h = h
-fault_moved K L ts us t place (Deep p) f g h = (h.0, deep_moved K L ts us t f h.1)
-fault_moved K L ts us t place (Number p) f g h = (h.0, (calls_moved K L ts us f g h.1.0, h.1.1))
-fault_moved K L ts us t place (Range p) f g h = (h.0, (calls_moved K L ts us f g h.1.0, h.1.1))
-fault_moved K L ts us t place (Shape p) f g h = (
+fault_moved K L ts us t place Long f g c d h = h
+fault_moved K L ts us t place (Byte p) f g c d h = h
+fault_moved K L ts us t place (Deep p) f g c d h = (h.0, (h.1.0, (h.1.1.0, f h.1.1.0 h.1.1.1)))
+fault_moved K L ts us t place (Number p) f g c d h = (h.0, (c h.1.0, h.1.1))
+fault_moved K L ts us t place (Range p) f g c d h = (h.0, (c h.1.0, h.1.1))
+fault_moved K L ts us t place (Shape p) f g c d h = (
   h.0,
-  (λ d. h.1 (deep_moved L K us ts t g d)),
-  (λ n. h.2 (calls_moved L K us ts g f n.0, n.1)),
-  λ n. h.3 (calls_moved L K us ts g f n.0, n.1),
+  (λ x. h.1 (x.0, (x.1.0, g x.1.0 x.1.1))),
+  (λ x. h.2 (d x.0, x.1)),
+  λ x. h.3 (d x.0, x.1),
 )
 
 -- a token was taken
@@ -51,28 +50,16 @@ step K L t ts (At fault) there back h = record {
   parts = ap (λ us. t ∷ us) h.parts;
   begins = (h.begins.0, there 0 (words_of h.front ++ h.begins.0) h.begins.1);
   stops = λ b. h.stops (b.0, back 0 ((words_of h.front ++ h.token.token ∷ []) ++ b.0) b.1);
-  why = fault_moved K L (words_of h.front) (t.token ∷ words_of h.front) h.token.token h.token.place fault
-      (λ more u b. (b.0, there more ((words_of h.front ++ u ∷ []) ++ b.0) b.1))
-      (λ more u b. (b.0, back more ((words_of h.front ++ u ∷ []) ++ b.0) b.1)) h.why;
-}
-
--- the same may be said
-pub same : (K L : Language) (ts : List Placed) (stop : Stop)
-    → ((more : ℕ) (ws : List Token) → K more ws → L more ws)
-    → ((more : ℕ) (ws : List Token) → L more ws → K more ws)
-    → WhyStops K ts stop → WhyStops L ts stop
-same K L ts Early there back h =
-    ((h.0.0, there 0 (words_of ts ++ h.0.0) h.0.1), λ l. h.1 (back 0 (words_of ts) l))
-same K L ts (At fault) there back h = record {
-  front = h.front;
-  token = h.token;
-  behind = h.behind;
-  parts = h.parts;
-  begins = (h.begins.0, there 0 (words_of h.front ++ h.begins.0) h.begins.1);
-  stops = λ b. h.stops (b.0, back 0 ((words_of h.front ++ h.token.token ∷ []) ++ b.0) b.1);
-  why = fault_moved K L (words_of h.front) (words_of h.front) h.token.token h.token.place fault
-      (λ more u b. (b.0, there more ((words_of h.front ++ u ∷ []) ++ b.0) b.1))
-      (λ more u b. (b.0, back more ((words_of h.front ++ u ∷ []) ++ b.0) b.1)) h.why;
+  why =
+      let us = words_of h.front in
+      let onward : Onward K us L (t.token ∷ us) =
+      λ more u b. (b.0, there more ((us ++ u ∷ []) ++ b.0) b.1) in
+      let back_again : Onward L (t.token ∷ us) K us =
+      λ more u b. (b.0, back more ((us ++ u ∷ []) ++ b.0) b.1) in
+      fault_moved K L us (t.token ∷ us) h.token.token h.token.place fault
+      (λ more b. onward more h.token.token b) (λ more b. back_again more h.token.token b)
+      (calls_moved K L us (t.token ∷ us) onward back_again)
+      (calls_moved L K (t.token ∷ us) us back_again onward) h.why;
 }
 
 -- a token with which nothing begins, at which neither depth nor a number counts

@@ -1,12 +1,14 @@
 -- Expressions, and what stands behind their first parenthesis.
 use Rattle.std.proofs.Common.{◌≡◌, ◌≤◌, ℕ, ◌+◌, List, [], ◌∷◌, ◌++◌, refl, sym, ap, subst, ◌∙◌, codes, map, length, append_assoc, arith}
 use Rattle.std.proofs.lemmas.List.{append-nil}
+use Rattle.omos_base.specs.SymNames.{IsSymName}
+use Rattle.omos_model.specs.Names.{Name}
 use Rattle.omos_model.specs.Op.{Op, Rename, Restrict, Freeze, Hide, Show, CopyAs}
 use Rattle.omos_model.specs.declared.expr.Expr.{Expr}
 use Rattle.omos_model.specs.declared.expr.Expr.TheVariants as expr
 use Rattle.bp_tree.specs.Tokens.{Token, Open, Close, Word}
 use Rattle.bp_tree.specs.Grammar.{IsExpr, IsOpened, Merges, Overrides, Applies, AreExprs, op_words, IsOp, op_nesting, applied}
-use Rattle.bp_tree.specs.Symbols.{Sym, It, AnExpr, AreSyms, behind, keyword, operator_keyword, arguments, form_nesting, kind_nesting}
+use Rattle.bp_tree.specs.Symbols.{Sym, It, AName, AnExpr, AreSyms, behind, keyword, operator_keyword, arguments, form_nesting, kind_nesting}
 use Rattle.bp_tree.specs.declared.form.Form.{Form}
 use Rattle.bp_tree.specs.declared.form.Form.TheVariants as form
 use Rattle.bp_tree.specs.declared.form.Applied.{Applied}
@@ -43,87 +45,70 @@ operand_is room more inner x is = (inner, Close ∷ [], refl, (x, is), (Close �
 flat : (ws f r xs ys : List Token) → ws ≡ f ++ r → f ≡ xs → r ≡ ys → xs ++ ys ≡ ws
 flat ws f r xs ys e p q = sym (e ∙ ap (λ us. us ++ r) p ∙ ap (λ us. xs ++ us) q)
 
+one_argument : (more : ℕ) (ws : List Token) → AreSyms (AName ∷ []) more ws
+    → (a : Name) × (ws ≡ Word a ∷ []) × IsSymName a
+one_argument more ws h = (h.3.0, sym (flat ws h.0 h.1 (Word h.3.0 ∷ []) [] h.2 h.3.1 h.4), h.3.2)
+
+two_arguments : (more : ℕ) (ws : List Token) → AreSyms (AName ∷ AName ∷ []) more ws
+    → (a : Name) × (b : Name) × (ws ≡ Word a ∷ Word b ∷ []) × IsSymName a × IsSymName b
+two_arguments more ws h =
+    let k = one_argument more h.1 h.4 in
+    (h.3.0, k.0, sym (flat ws h.0 h.1 (Word h.3.0 ∷ []) (Word k.0 ∷ []) h.2 h.3.1 k.1), h.3.2, k.2)
+
 -- the operator of a kind, from its arguments
 args_op : (k : Applied) (more : ℕ) (ws : List Token) → AreSyms (arguments k) more ws
     → (op : Op) × (op_words op ≡ Word (operator_keyword k) ∷ ws) × IsOp op × (op_nesting op ≡ kind_nesting k)
-args_op kind.Rename more ws h = (
-  Rename h.3.0 h.4.3.0,
-  ap (λ us. Word (codes "rename") ∷ us) (flat ws h.0 h.1 (Word h.3.0 ∷ []) (Word h.4.3.0 ∷ []) h.2 h.3.1
-      (sym (flat h.1 h.4.0 h.4.1 (Word h.4.3.0 ∷ []) [] h.4.2 h.4.3.1 h.4.4))),
-  (h.3.2, h.4.3.2),
-  refl,
-)
-args_op kind.Restrict more ws h = (
-  Restrict h.3.0,
-  ap (λ us. Word (codes "restrict") ∷ us) (flat ws h.0 h.1 (Word h.3.0 ∷ []) [] h.2 h.3.1 h.4),
-  h.3.2,
-  refl,
-)
-args_op kind.Freeze more ws h = (
-  Freeze h.3.0,
-  ap (λ us. Word (codes "freeze") ∷ us) (flat ws h.0 h.1 (Word h.3.0 ∷ []) [] h.2 h.3.1 h.4),
-  h.3.2,
-  refl,
-)
-args_op kind.Hide more ws h = (
-  Hide h.3.0,
-  ap (λ us. Word (codes "hide") ∷ us) (flat ws h.0 h.1 (Word h.3.0 ∷ []) [] h.2 h.3.1 h.4),
-  h.3.2,
-  refl,
-)
+args_op kind.Rename more ws h =
+    let a = two_arguments more ws h in
+    (Rename a.0 a.1, ap (λ us. Word (codes "rename") ∷ us) (sym a.2), (a.3, a.4), refl)
+args_op kind.Restrict more ws h =
+    let a = one_argument more ws h in
+    (Restrict a.0, ap (λ us. Word (codes "restrict") ∷ us) (sym a.1), a.2, refl)
+args_op kind.Freeze more ws h =
+    let a = one_argument more ws h in
+    (Freeze a.0, ap (λ us. Word (codes "freeze") ∷ us) (sym a.1), a.2, refl)
+args_op kind.Hide more ws h =
+    let a = one_argument more ws h in
+    (Hide a.0, ap (λ us. Word (codes "hide") ∷ us) (sym a.1), a.2, refl)
 args_op kind.Show more ws h =
     let listed : List Token = map Word h.4.3.0 ++ Close ∷ [] in
-    let whole : h.1 ≡ listed = sym (flat h.1 h.4.0 h.4.1 listed [] h.4.2 h.4.3.1 h.4.4) ∙ append-nil listed in (
+    let whole : h.1 ≡ listed =
+    sym (flat h.1 h.4.0 h.4.1 listed [] h.4.2 h.4.3.1 h.4.4) ∙ append-nil listed in (
       Show h.4.3.0,
       ap (λ us. Word (codes "show") ∷ us) (flat ws h.0 h.1 (Open ∷ []) listed h.2 h.3 whole),
       h.4.3.2,
       refl,
     )
-args_op kind.CopyAs more ws h = (
-  CopyAs h.3.0 h.4.3.0,
-  ap (λ us. Word (codes "copy_as") ∷ us) (flat ws h.0 h.1 (Word h.3.0 ∷ []) (Word h.4.3.0 ∷ []) h.2 h.3.1
-      (sym (flat h.1 h.4.0 h.4.1 (Word h.4.3.0 ∷ []) [] h.4.2 h.4.3.1 h.4.4))),
-  (h.3.2, h.4.3.2),
-  refl,
-)
+args_op kind.CopyAs more ws h =
+    let a = two_arguments more ws h in
+    (CopyAs a.0 a.1, ap (λ us. Word (codes "copy_as") ∷ us) (sym a.2), (a.3, a.4), refl)
+
+is_argument : (more : ℕ) (a : Name) → IsSymName a → AreSyms (AName ∷ []) more (Word a ∷ [])
+is_argument more a is = (Word a ∷ [], [], refl, (a, refl, is), refl)
+
+are_arguments : (more : ℕ) (a b : Name) → IsSymName a → IsSymName b
+    → AreSyms (AName ∷ AName ∷ []) more (Word a ∷ Word b ∷ [])
+are_arguments more a b is is' = (Word a ∷ [], Word b ∷ [], refl, (a, refl, is), is_argument more b is')
 
 -- and its arguments
 pub op_args : (op : Op) (more : ℕ) → IsOp op
     → (k : Applied) × (ws : List Token) × (op_words op ≡ Word (operator_keyword k) ∷ ws)
     × (op_nesting op ≡ kind_nesting k) × AreSyms (arguments k) more ws
-op_args (Rename a b) more is = (
-  kind.Rename,
-  Word a ∷ Word b ∷ [],
-  refl,
-  refl,
-  (Word a ∷ [], Word b ∷ [], refl, (a, refl, is.0), (Word b ∷ [], [], refl, (b, refl, is.1), refl)),
-)
-op_args (Restrict a) more is =
-    (kind.Restrict, Word a ∷ [], refl, refl, (Word a ∷ [], [], refl, (a, refl, is), refl))
-op_args (Freeze a) more is =
-    (kind.Freeze, Word a ∷ [], refl, refl, (Word a ∷ [], [], refl, (a, refl, is), refl))
-op_args (Hide a) more is =
-    (kind.Hide, Word a ∷ [], refl, refl, (Word a ∷ [], [], refl, (a, refl, is), refl))
-op_args (Show names) more is = (
-  kind.Show,
-  Open ∷ (map Word names ++ Close ∷ []),
-  refl,
-  refl,
-  (
-    Open ∷ [],
-    map Word names ++ Close ∷ [],
-    refl,
-    refl,
-    (map Word names ++ Close ∷ [], [], sym (append-nil (map Word names ++ Close ∷ [])), (names, refl, is), refl),
-  ),
-)
-op_args (CopyAs a b) more is = (
-  kind.CopyAs,
-  Word a ∷ Word b ∷ [],
-  refl,
-  refl,
-  (Word a ∷ [], Word b ∷ [], refl, (a, refl, is.0), (Word b ∷ [], [], refl, (b, refl, is.1), refl)),
-)
+op_args (Rename a b) more is =
+    (kind.Rename, Word a ∷ Word b ∷ [], refl, refl, are_arguments more a b is.0 is.1)
+op_args (Restrict a) more is = (kind.Restrict, Word a ∷ [], refl, refl, is_argument more a is)
+op_args (Freeze a) more is = (kind.Freeze, Word a ∷ [], refl, refl, is_argument more a is)
+op_args (Hide a) more is = (kind.Hide, Word a ∷ [], refl, refl, is_argument more a is)
+op_args (Show names) more is =
+    let list = map Word names ++ Close ∷ [] in (
+      kind.Show,
+      Open ∷ list,
+      refl,
+      refl,
+      (Open ∷ [], list, refl, refl, (list, [], sym (append-nil list), (names, refl, is), refl)),
+    )
+op_args (CopyAs a b) more is =
+    (kind.CopyAs, Word a ∷ Word b ∷ [], refl, refl, are_arguments more a b is.0 is.1)
 
 -- a merge's tokens, in both groupings
 pub regrouped : (f g inner : List Token) → f ++ (g ++ (inner ++ Close ∷ [])) ≡ (f ++ (g ++ inner)) ++ Close ∷ []

@@ -1,18 +1,17 @@
 -- The numbers of a range, and what may be wrong with them.
 use Rattle.std.proofs.Common.{◌≡◌, ℕ, List, [], ◌∷◌, ◌++◌, refl, sym, ap, subst, ◌∙◌, inl, codes, arith, IsTrue}
 use Rattle.omos_model.specs.ImageParts.{is_range, top}
-use Rattle.omos_model.specs.declared.refusal.BpFault.{BpFault}
 use Rattle.omos_model.specs.declared.refusal.BpFault.TheVariants.{Shape, Number, Range}
 use Rattle.bp_tree.specs.Tokens.{Token, Open, Close, Word, Placed}
 use Rattle.bp_tree.specs.Numerals.{IsNumeralOf}
-use Rattle.bp_tree.specs.TextFaults.{Begins, CallsForNumber, IsNumberWord, IsTokenFault}
+use Rattle.bp_tree.specs.TextFaults.{CallsForNumber, IsNumberWord}
 use Rattle.bp_tree.specs.Texts.{words_of}
 use Rattle.bp_tree.specs.Symbols.{Sym, It, Low, High, IsSym, AreSyms, Completable, Fails, AreRead, WhyStops}
 use Rattle.bp_tree.specs.Header.{AreBounds, IsUpper}
 use Rattle.bp_tree.specs.declared.stop.Stop.{Stop}
 use Rattle.bp_tree.specs.declared.stop.Stop.TheVariants.{Early, At}
 use Rattle.bp_tree.proofs.Digits.{one_number}
-use Rattle.bp_tree.proofs.Failing.{Sample, IsNeverEmpty, completes, begins_with, head_of, fails_early, leads_step}
+use Rattle.bp_tree.proofs.Failing.{Sample, IsNeverEmpty, begins_with, head_of, fails_early, fails_at, fails_plain, leads_step}
 
 -- ---- any symbol that calls for a number
 
@@ -30,60 +29,42 @@ calls s ss sample full numbers c word tail is = (
       let same : w ≡ n.0 = cc in rw same n.2,
 )
 
-fails_at : (s : Sym) (ts : List Placed) (t : Placed) (after : List Placed) (fault : BpFault) → Sample s → ts ≡ t ∷ after
-    → IsNeverEmpty s → ((tail : List Token) → IsSym 0 s (t.token ∷ tail) → ⊥)
-    → ((ss : List Sym) → Completable ss → IsTokenFault (AreSyms (s ∷ ss)) [] t.token t.place fault)
-    → Fails (s ∷ []) ts (At fault)
-fails_at s ts t after fault sample e full stops why = record {
-  why = λ ss c.
-      let P : List Placed → Type 0 = λ us. WhyStops (AreSyms (s ∷ ss)) us (At fault) in
-      subst P (sym e) (record {
-        front = [];
-        token = t;
-        behind = after;
-        parts = refl;
-        begins = completes s ss sample c 0;
-        stops = λ b. let w = head_of s ss t.token 0 full b in stops w.0 w.1;
-        why = why ss c;
-      });
-}
+-- it begins with a word that is a number, as this one does
+pub record IsCalled (s : Sym) : Type 0 where
+  pub sample : Sample s
+  pub full : IsNeverEmpty s
+  pub numbers : Numbers s
+  pub some : (word : List ℕ) × (tail : List Token) × IsSym 0 s (Word word ∷ tail)
 
-abbrev WordOf : Sym → Type 0
-WordOf s = (word : List ℕ) × (tail : List Token) × IsSym 0 s (Word word ∷ tail)
+pub number_early : (s : Sym) → IsCalled s → (ts : List Placed) → ts ≡ [] → Fails (s ∷ []) ts Early
+number_early s k ts e = fails_early s ts k.sample k.full e
 
-number_fails : (s : Sym) (ts : List Placed) (t : Placed) (after : List Placed) → Sample s → IsNeverEmpty s → Numbers s → WordOf s
-    → ts ≡ t ∷ after → (w : List ℕ) → t.token ≡ Word w → (IsNumberWord w → ⊥) → Fails (s ∷ []) ts (At (Number t.place))
-number_fails s ts t after sample full numbers some e w is none =
-    fails_at s ts t after (Number t.place) sample e full
+pub number_none : (s : Sym) → IsCalled s → (ts : List Placed) (t : Placed) (after : List Placed) → ts ≡ t ∷ after
+    → (w : List ℕ) → t.token ≡ Word w → (IsNumberWord w → ⊥) → Fails (s ∷ []) ts (At (Number t.place))
+number_none s k ts t after e w is none =
+    fails_at s ts t after (Number t.place) k.sample e k.full
     (λ tail h.
-    let n = numbers 0 t.token tail h in
+    let n = k.numbers 0 t.token tail h in
     let q : Word w ≡ Word n.0 = sym is ∙ n.1 in
     let same : w ≡ n.0 = cc in none (rw same n.2))
-    (λ ss c. (refl, (calls s ss sample full numbers c some.0 some.1 some.2, (w, is, none))))
+    (λ ss c. (refl, (calls s ss k.sample k.full k.numbers c k.some.0 k.some.1 k.some.2, (w, is, none))))
 
-range_fails : (s : Sym) (ts : List Placed) (t : Placed) (after : List Placed) → Sample s → IsNeverEmpty s → Numbers s → WordOf s
-    → ts ≡ t ∷ after → (w : List ℕ) → t.token ≡ Word w → IsNumberWord w
+range_off : (s : Sym) → IsCalled s → (ts : List Placed) (t : Placed) (after : List Placed) → ts ≡ t ∷ after
+    → (w : List ℕ) → t.token ≡ Word w → IsNumberWord w
     → ((tail : List Token) → IsSym 0 s (Word w ∷ tail) → ⊥) → Fails (s ∷ []) ts (At (Range t.place))
-range_fails s ts t after sample full numbers some e w is number off =
-    fails_at s ts t after (Range t.place) sample e full
+range_off s k ts t after e w is number off =
+    fails_at s ts t after (Range t.place) k.sample e k.full
     (λ tail h. let P : Token → Type 0 = λ u. IsSym 0 s (u ∷ tail) in off tail (subst P is h))
-    (λ ss c. (refl, (calls s ss sample full numbers c some.0 some.1 some.2, (w, is, number))))
+    (λ ss c. (refl, (calls s ss k.sample k.full k.numbers c k.some.0 k.some.1 k.some.2, (w, is, number))))
 
-word_fails : (s : Sym) (ts : List Placed) (t : Placed) (after : List Placed) → Sample s → IsNeverEmpty s → Numbers s
-    → ts ≡ t ∷ after → ((w : List ℕ) → t.token ≡ Word w → ⊥) → Fails (s ∷ []) ts (At (Shape t.place))
-word_fails s ts t after sample full numbers e none =
-    fails_at s ts t after (Shape t.place) sample e full
-    (λ tail h. let n = numbers 0 t.token tail h in none n.0 n.1)
-    (λ ss c. (
-      refl,
-      (λ d.
-          let P : Token → Type 0 = λ u. Begins (AreSyms (s ∷ ss)) d.1.0 (u ∷ []) in
-          let h = head_of s ss Open d.1.0 full (subst P d.0 d.1.1) in
-          let n = numbers d.1.0 Open h.0 h.1 in
-          let q : Open ≡ Word n.0 = n.1 in cc),
-      (λ n. none n.1.0 n.1.1),
-      λ n. none n.1.0 n.1.1,
-    ))
+pub number_shape : (s : Sym) → IsCalled s → (ts : List Placed) (t : Placed) (after : List Placed) → ts ≡ t ∷ after
+    → ((w : List ℕ) → t.token ≡ Word w → ⊥) → Fails (s ∷ []) ts (At (Shape t.place))
+number_shape s k ts t after e none =
+    fails_plain s ts t after k.sample k.full e (λ tail h. let n = k.numbers 0 t.token tail h in none n.0 n.1)
+    (λ opens more tail h.
+    let n = k.numbers more Open tail h in
+    let q : Open ≡ Word n.0 = n.1 in cc)
+    (λ ss c w is calling. none w is)
 
 -- ---- the two symbols
 
@@ -99,27 +80,28 @@ low_word = codes "65536"
 low_number : IsNumeralOf low_word 65536
 low_number = (inl ((omega arith, (omega arith, (omega arith, (omega arith, (omega arith, (omega arith, tt)))))), omega arith, refl), omega arith)
 
-low_sample : Sample Low
-low_sample more = (Word low_word ∷ Word top_word ∷ Close ∷ [], (low_word, top_word, 65536, top, refl, low_number, top_number, refl))
+pub low_called : IsCalled Low
+low_called =
+    let some : IsSym 0 Low (Word low_word ∷ Word top_word ∷ Close ∷ []) =
+    (low_word, top_word, 65536, top, refl, low_number, top_number, refl) in
+    record {
+      sample = λ more. (Word low_word ∷ Word top_word ∷ Close ∷ [], some);
+      full = λ more h. let e : [] ≡ Word h.0 ∷ Word h.1 ∷ Close ∷ [] = h.4 in cc;
+      numbers = λ more t tail h.
+          let e : t ∷ tail ≡ Word h.0 ∷ Word h.1 ∷ Close ∷ [] = h.4 in
+          let same : t ≡ Word h.0 = cc in (h.0, same, (h.2, h.5));
+      some = (low_word, Word top_word ∷ Close ∷ [], some);
+    }
 
-low_full : IsNeverEmpty Low
-low_full more h = let e : [] ≡ Word h.0 ∷ Word h.1 ∷ Close ∷ [] = h.4 in cc
-
-low_numbers : Numbers Low
-low_numbers more t tail h =
-    let e : t ∷ tail ≡ Word h.0 ∷ Word h.1 ∷ Close ∷ [] = h.4 in
-    let same : t ≡ Word h.0 = cc in (h.0, same, (h.2, h.5))
-
-high_sample : (lo : ℕ) → IsTrue (is_range lo top) → Sample (High lo)
-high_sample lo fits more = (Word top_word ∷ Close ∷ [], (top_word, top, refl, top_number, fits))
-
-high_full : (lo : ℕ) → IsNeverEmpty (High lo)
-high_full lo more h = let e : [] ≡ Word h.0 ∷ Close ∷ [] = h.2 in cc
-
-high_numbers : (lo : ℕ) → Numbers (High lo)
-high_numbers lo more t tail h =
-    let e : t ∷ tail ≡ Word h.0 ∷ Close ∷ [] = h.2 in
-    let same : t ≡ Word h.0 = cc in (h.0, same, (h.1, h.3))
+pub high_called : (lo : ℕ) → IsTrue (is_range lo top) → IsCalled (High lo)
+high_called lo fits = record {
+  sample = λ more. (Word top_word ∷ Close ∷ [], (top_word, top, refl, top_number, fits));
+  full = λ more h. let e : [] ≡ Word h.0 ∷ Close ∷ [] = h.2 in cc;
+  numbers = λ more t tail h.
+      let e : t ∷ tail ≡ Word h.0 ∷ Close ∷ [] = h.2 in
+      let same : t ≡ Word h.0 = cc in (h.0, same, (h.1, h.3));
+  some = (top_word, Close ∷ [], (top_word, top, refl, top_number, fits));
+}
 
 -- where a range has an upper bound, it has the greatest one
 low_test : (lo hi : ℕ) → IsTrue (is_range lo hi) → IsTrue (is_range lo top)
@@ -127,24 +109,10 @@ low_test lo hi h = grind arith
 
 -- ---- what the reading of them needs
 
-pub low_early : (ts : List Placed) → ts ≡ [] → Fails (Low ∷ []) ts Early
-low_early ts e = fails_early Low ts low_sample low_full e
-
-pub low_shape : (ts : List Placed) (t : Placed) (after : List Placed) → ts ≡ t ∷ after → ((w : List ℕ) → t.token ≡ Word w → ⊥)
-    → Fails (Low ∷ []) ts (At (Shape t.place))
-low_shape ts t after e none = word_fails Low ts t after low_sample low_full low_numbers e none
-
-pub low_none : (ts : List Placed) (t : Placed) (after : List Placed) → ts ≡ t ∷ after → (w : List ℕ) → t.token ≡ Word w
-    → (IsNumberWord w → ⊥) → Fails (Low ∷ []) ts (At (Number t.place))
-low_none ts t after e w is none =
-    number_fails Low ts t after low_sample low_full low_numbers
-    (low_word, Word top_word ∷ Close ∷ [], (low_word, top_word, 65536, top, refl, low_number, top_number, refl)) e w is none
-
 pub low_off : (ts : List Placed) (t : Placed) (after : List Placed) → ts ≡ t ∷ after → (w : List ℕ) (lo : ℕ) → t.token ≡ Word w
     → IsNumeralOf w lo → (IsTrue (is_range lo top) → ⊥) → Fails (Low ∷ []) ts (At (Range t.place))
 low_off ts t after e w lo is number off =
-    range_fails Low ts t after low_sample low_full low_numbers
-    (low_word, Word top_word ∷ Close ∷ [], (low_word, top_word, 65536, top, refl, low_number, top_number, refl)) e w is (lo, number)
+    range_off Low low_called ts t after e w is (lo, number)
     (λ tail h.
     let q : Word w ∷ tail ≡ Word h.0 ∷ Word h.1 ∷ Close ∷ [] = h.4 in
     let same : h.0 ≡ w = cc in
@@ -152,25 +120,11 @@ low_off ts t after e w lo is number off =
     let n : h.2 ≡ lo = one_number w h.2 lo (subst P same h.5) number in
     let Q : ℕ → Type 0 = λ l. IsTrue (is_range l h.3) in off (low_test lo h.3 (subst Q n h.7)))
 
-pub high_early : (lo : ℕ) (ts : List Placed) → IsTrue (is_range lo top) → ts ≡ [] → Fails (High lo ∷ []) ts Early
-high_early lo ts fits e = fails_early (High lo) ts (high_sample lo fits) (high_full lo) e
-
-pub high_shape : (lo : ℕ) (ts : List Placed) (t : Placed) (after : List Placed) → IsTrue (is_range lo top) → ts ≡ t ∷ after
-    → ((w : List ℕ) → t.token ≡ Word w → ⊥) → Fails (High lo ∷ []) ts (At (Shape t.place))
-high_shape lo ts t after fits e none = word_fails (High lo) ts t after (high_sample lo fits) (high_full lo) (high_numbers lo) e none
-
-pub high_none : (lo : ℕ) (ts : List Placed) (t : Placed) (after : List Placed) → IsTrue (is_range lo top) → ts ≡ t ∷ after
-    → (w : List ℕ) → t.token ≡ Word w → (IsNumberWord w → ⊥) → Fails (High lo ∷ []) ts (At (Number t.place))
-high_none lo ts t after fits e w is none =
-    number_fails (High lo) ts t after (high_sample lo fits) (high_full lo) (high_numbers lo)
-    (top_word, Close ∷ [], (top_word, top, refl, top_number, fits)) e w is none
-
 pub high_off : (lo : ℕ) (ts : List Placed) (t : Placed) (after : List Placed) → IsTrue (is_range lo top) → ts ≡ t ∷ after
     → (w : List ℕ) (hi : ℕ) → t.token ≡ Word w → IsNumeralOf w hi → (IsTrue (is_range lo hi) → ⊥)
     → Fails (High lo ∷ []) ts (At (Range t.place))
 high_off lo ts t after fits e w hi is number off =
-    range_fails (High lo) ts t after (high_sample lo fits) (high_full lo) (high_numbers lo)
-    (top_word, Close ∷ [], (top_word, top, refl, top_number, fits)) e w is (hi, number)
+    range_off (High lo) (high_called lo fits) ts t after e w is (hi, number)
     (λ tail h.
     let q : Word w ∷ tail ≡ Word h.0 ∷ Close ∷ [] = h.2 in
     let same : h.0 ≡ w = cc in

@@ -1,13 +1,12 @@
 -- Symbols read one after the other, and languages that differ elsewhere.
-use Rattle.std.proofs.Common.{◌≡◌, ℕ, List, [], ◌∷◌, ◌++◌, sym, ap, subst, ◌∙◌, append_assoc}
-use Rattle.omos_model.specs.declared.refusal.BpFault.{BpFault}
-use Rattle.omos_model.specs.declared.refusal.BpFault.TheVariants.{Long, Byte, Shape, Deep, Number, Range}
+use Rattle.std.proofs.Common.{◌≡◌, ℕ, List, [], ◌∷◌, ◌++◌, refl, sym, ap, subst, ◌∙◌, ◌⊎◌, inl, inr, append_assoc}
 use Rattle.bp_tree.specs.Tokens.{Token, Close, Word, Placed}
 use Rattle.bp_tree.specs.Texts.{words_of}
-use Rattle.bp_tree.specs.TextFaults.{Language, Begins, CallsForNumber, IsTokenFault}
+use Rattle.bp_tree.specs.TextFaults.{Language, Begins, CallsForNumber}
 use Rattle.bp_tree.specs.Symbols.{Sym, AreSyms, Completable, Fails, AreRead, WhyStops}
 use Rattle.bp_tree.specs.declared.stop.Stop.{Stop}
 use Rattle.bp_tree.specs.declared.stop.Stop.TheVariants.{Early, At}
+use Rattle.bp_tree.proofs.Moves.{Onward, calls_moved, fault_moved}
 use Rattle.bp_tree.proofs.NameLists.{words-append}
 
 -- something is said in the symbols
@@ -44,23 +43,6 @@ then_read a b V W U ts now after r q both = record {
 
 -- ---- where two languages differ in no beginning that stands here
 
-narrow_fault : (K L : Language) (ts : List Token) (t : Token) (place : ℕ) (fault : BpFault)
-    → ((more : ℕ) → Begins K more (ts ++ t ∷ []) → Begins L more (ts ++ t ∷ []))
-    → ((more : ℕ) → Begins L more (ts ++ t ∷ []) → Begins K more (ts ++ t ∷ []))
-    → (CallsForNumber K ts → CallsForNumber L ts) → (CallsForNumber L ts → CallsForNumber K ts)
-    → IsTokenFault K ts t place fault → IsTokenFault L ts t place fault
-narrow_fault K L ts t place Long f g c d h = h
-narrow_fault K L ts t place (Byte p) f g c d h = h
-narrow_fault K L ts t place (Deep p) f g c d h = (h.0, (h.1.0, (h.1.1.0, f h.1.1.0 h.1.1.1)))
-narrow_fault K L ts t place (Number p) f g c d h = (h.0, (c h.1.0, h.1.1))
-narrow_fault K L ts t place (Range p) f g c d h = (h.0, (c h.1.0, h.1.1))
-narrow_fault K L ts t place (Shape p) f g c d h = (
-  h.0,
-  (λ x. h.1 (x.0, (x.1.0, g x.1.0 x.1.1))),
-  (λ x. h.2 (d x.0, x.1)),
-  λ x. h.3 (d x.0, x.1),
-)
-
 pub narrowed : (K L : Language) (ts : List Placed) (stop : Stop)
     → ((more : ℕ) (ws : List Token) → K more ws → L more ws)
     → (L 0 (words_of ts) → K 0 (words_of ts))
@@ -80,10 +62,26 @@ narrowed K L ts (At fault) incl whole own calls h =
       parts = h.parts;
       begins = (h.begins.0, incl 0 (words_of h.front ++ h.begins.0) h.begins.1);
       stops = λ b. h.stops (own h.front h.token h.behind h.parts 0 b);
-      why = narrow_fault K L (words_of h.front) h.token.token h.token.place fault
+      why = fault_moved K L (words_of h.front) (words_of h.front) h.token.token h.token.place fault
           (λ more b. (b.0, incl more ((words_of h.front ++ h.token.token ∷ []) ++ b.0) b.1))
           (own h.front h.token h.behind h.parts) both.0 both.1 h.why;
     }
+
+-- the same may be said
+pub same : (K L : Language) (ts : List Placed) (stop : Stop)
+    → ((more : ℕ) (ws : List Token) → K more ws → L more ws)
+    → ((more : ℕ) (ws : List Token) → L more ws → K more ws)
+    → WhyStops K ts stop → WhyStops L ts stop
+same K L ts stop there back h =
+    let onward : (us : List Token) → Onward K us L us =
+    λ us more u b. (b.0, there more ((us ++ u ∷ []) ++ b.0) b.1) in
+    let back_again : (us : List Token) → Onward L us K us =
+    λ us more u b. (b.0, back more ((us ++ u ∷ []) ++ b.0) b.1) in
+    narrowed K L ts stop there (back 0 (words_of ts))
+    (λ front t behind parts more b. back_again (words_of front) more t.token b)
+    (λ front t behind parts.
+    let us = words_of front in
+    (calls_moved K L us us (onward us) (back_again us), calls_moved L K us us (back_again us) (onward us))) h
 
 -- what L says beyond K begins with a parenthesis
 abbrev pub DiffersAtClose : Language → Language → Type 0
@@ -92,22 +90,14 @@ DiffersAtClose K L =
 
 close_own : (K L : Language) → DiffersAtClose K L → (t : Placed) (after : List Placed)
     → (t.token ≡ Close → ⊥) → (front : List Placed) (u : Placed) (behind : List Placed)
-    → t ∷ after ≡ front ++ u ∷ behind → (more : ℕ)
-    → Begins L more (words_of front ++ u.token ∷ []) → Begins K more (words_of front ++ u.token ∷ [])
-close_own K L d t after other [] u behind parts more b =
-    let n : t ≡ u = cc in (b.0, d more u.token b.0 (λ h. other (ap (λ p. p.token) n ∙ h)) b.1)
-close_own K L d t after other (f ∷ fs) u behind parts more b =
+    → t ∷ after ≡ front ++ u ∷ behind → (more : ℕ) (v : Token) → (v ≡ u.token) ⊎ (v ≡ Close → ⊥)
+    → Begins L more (words_of front ++ v ∷ []) → Begins K more (words_of front ++ v ∷ [])
+close_own K L d t after other [] u behind parts more v (inl e) b =
+    let n : t ≡ u = cc in (b.0, d more v b.0 (λ h. other (ap (λ p. p.token) n ∙ sym e ∙ h)) b.1)
+close_own K L d t after other [] u behind parts more v (inr none) b = (b.0, d more v b.0 none b.1)
+close_own K L d t after other (f ∷ fs) u behind parts more v is b =
     let n : t ≡ f = cc in
-    (b.0, d more f.token ((words_of fs ++ u.token ∷ []) ++ b.0) (λ h. other (ap (λ p. p.token) n ∙ h)) b.1)
-
-close_word : (K L : Language) → DiffersAtClose K L → (t : Placed) (after : List Placed)
-    → (t.token ≡ Close → ⊥) → (front : List Placed) (u : Placed) (behind : List Placed)
-    → t ∷ after ≡ front ++ u ∷ behind → (word : List ℕ)
-    → Begins L 0 (words_of front ++ Word word ∷ []) → Begins K 0 (words_of front ++ Word word ∷ [])
-close_word K L d t after other [] u behind parts word b = (b.0, d 0 (Word word) b.0 (λ h. cc) b.1)
-close_word K L d t after other (f ∷ fs) u behind parts word b =
-    let n : t ≡ f = cc in
-    (b.0, d 0 f.token ((words_of fs ++ Word word ∷ []) ++ b.0) (λ h. other (ap (λ p. p.token) n ∙ h)) b.1)
+    (b.0, d more f.token ((words_of fs ++ v ∷ []) ++ b.0) (λ h. other (ap (λ p. p.token) n ∙ h)) b.1)
 
 -- and no parenthesis stands here
 pub unless_closed : (K L : Language) (ts : List Placed) (t : Placed) (after : List Placed) (stop : Stop)
@@ -119,14 +109,15 @@ unless_closed K L ts t after stop e other incl d h =
     let Q : List Placed → Type 0 = λ us. WhyStops K us stop in
     subst P (sym e) (narrowed K L (t ∷ after) stop incl
     (λ l. d 0 t.token (words_of after) other l)
-    (close_own K L d t after other)
+    (λ front u behind parts more b.
+    close_own K L d t after other front u behind parts more u.token (inl refl) b)
     (λ front u behind parts. (
       (λ c. (
         (c.0.0, (c.0.1.0, incl 0 ((words_of front ++ Word c.0.0 ∷ []) ++ c.0.1.0) c.0.1.1)),
-        λ word b. c.1 word (close_word K L d t after other front u behind parts word b),
+        λ word b. c.1 word (close_own K L d t after other front u behind parts 0 (Word word) (inr (λ h. cc)) b),
       )),
       λ c. (
-        (c.0.0, close_word K L d t after other front u behind parts c.0.0 c.0.1),
+        (c.0.0, close_own K L d t after other front u behind parts 0 (Word c.0.0) (inr (λ h. cc)) c.0.1),
         λ word b. c.1 word (b.0, incl 0 ((words_of front ++ Word word ∷ []) ++ b.0) b.1),
       ),
     ))

@@ -3,7 +3,7 @@ use Rattle.std.specs.Prelude.{◌≡◌, ℕ, List, [], ◌∷◌, codes}
 use Rattle.omos_model.specs.ImageParts.{image_of}
 use Rattle.omos_model.specs.declared.entry.Start.TheVariants.{Named}
 use Rattle.omos_model.specs.declared.expr.Expr.TheVariants.{Path, Merge, Show}
-use Rattle.bp_tree.specs.Tokens.{Token, Open, Close, Word, Barred, Placed, tokens_of}
+use Rattle.bp_tree.specs.Tokens.{Token, Open, Close, Word, Barred, tokens_of}
 use Rattle.bp_tree.specs.Texts.{words_of}
 use Rattle.bp_tree.specs.Canonical.{canonical_text}
 

@@ -4,6 +4,7 @@ pub mod Grammar
 pub mod Texts
 pub mod TextFaults
 pub mod Canonical
+pub mod Named
 pub mod Pending
 pub mod Symbols
 pub mod Header

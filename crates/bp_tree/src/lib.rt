@@ -8,6 +8,7 @@ mod form;
 mod header;
 pub mod laws;
 mod leaves;
+mod named;
 mod nodes;
 mod numbers;
 mod operator;
@@ -17,5 +18,6 @@ mod reading;
 mod stop;
 mod token;
 
+pub use named::text_says;
 pub use parser::parse;
 pub use printer::print;

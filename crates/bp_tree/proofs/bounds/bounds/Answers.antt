@@ -3,20 +3,20 @@ use Rattle.bp_tree.specs.Pending.{pending, placed, seen}
 use Rattle.bp_tree.specs.Symbols.{Low, High, Fails}
 use Rattle.bp_tree.proofs.Arms.{fault_onward}
 use Rattle.bp_tree.proofs.Sights.{seen_word, not_true}
-use Rattle.bp_tree.proofs.Ranges.{low_early, low_shape, low_none, low_off, low_fails, low_read}
+use Rattle.bp_tree.proofs.Ranges.{low_called, number_early, number_shape, number_none, low_off, low_fails, low_read}
 use Rattle.bp_tree.proofs.bounds.bounds.Goals as goal
 
 pub returns-in-None : goal.returns-in-None
-returns-in-None c = low_early (pending c.args.from) c.in-None.ensures
+returns-in-None c = number_early Low low_called (pending c.args.from) c.in-None.ensures
 
 pub returns-in_default : goal.returns-in_default
 returns-in_default c =
-    low_shape (pending c.args.from) (placed c.in-Some.next) (pending c.in-Some.next.after) c.in-Some.ensures
+    number_shape Low low_called (pending c.args.from) (placed c.in-Some.next) (pending c.in-Some.next.after) c.in-Some.ensures
     (λ w h. seen_word c.in-Some.next.token w h (λ u e _. c.in_default.not-Word u e))
 
 pub returns-in-None-number : goal.returns-in-None-number
 returns-in-None-number c =
-    low_none (pending c.args.from) (placed c.in-Some.next) (pending c.in-Some.next.after) c.in-Some.ensures
+    number_none Low low_called (pending c.args.from) (placed c.in-Some.next) (pending c.in-Some.next.after) c.in-Some.ensures
     c.in-Word.word.now (ap seen c.in-Word.is) c.in-None-number.ensures
 
 pub returns-else-are_bounds : goal.returns-else-are_bounds

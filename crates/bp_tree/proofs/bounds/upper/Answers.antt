@@ -4,20 +4,20 @@ use Rattle.bp_tree.specs.Pending.{pending, placed, seen}
 use Rattle.bp_tree.specs.Symbols.{It, High, Fails}
 use Rattle.bp_tree.proofs.Arms.{fault_onward}
 use Rattle.bp_tree.proofs.Sights.{seen_word, not_true}
-use Rattle.bp_tree.proofs.Ranges.{high_early, high_shape, high_none, high_off, high_fails, high_read}
+use Rattle.bp_tree.proofs.Ranges.{high_called, number_early, number_shape, number_none, high_off, high_fails, high_read}
 use Rattle.bp_tree.proofs.bounds.upper.Goals as goal
 
 pub returns-in-None : goal.returns-in-None
-returns-in-None c = high_early c.args.lo (pending c.args.from) c.requires c.in-None.ensures
+returns-in-None c = number_early (High c.args.lo) (high_called c.args.lo c.requires) (pending c.args.from) c.in-None.ensures
 
 pub returns-in_default : goal.returns-in_default
 returns-in_default c =
-    high_shape c.args.lo (pending c.args.from) (placed c.in-Some.next) (pending c.in-Some.next.after) c.requires c.in-Some.ensures
+    number_shape (High c.args.lo) (high_called c.args.lo c.requires) (pending c.args.from) (placed c.in-Some.next) (pending c.in-Some.next.after) c.in-Some.ensures
     (λ w h. seen_word c.in-Some.next.token w h (λ u e _. c.in_default.not-Word u e))
 
 pub returns-in-None-number : goal.returns-in-None-number
 returns-in-None-number c =
-    high_none c.args.lo (pending c.args.from) (placed c.in-Some.next) (pending c.in-Some.next.after) c.requires c.in-Some.ensures
+    number_none (High c.args.lo) (high_called c.args.lo c.requires) (pending c.args.from) (placed c.in-Some.next) (pending c.in-Some.next.after) c.in-Some.ensures
     c.in-Word.word.now (ap seen c.in-Word.is) c.in-None-number.ensures
 
 pub returns-else-are_bounds : goal.returns-else-are_bounds

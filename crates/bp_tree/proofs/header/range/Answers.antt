@@ -1,10 +1,10 @@
-use Rattle.std.proofs.Common.{[], ◌∷◌, sym, ◌∙◌, subst, refl, List, ℕ, codes}
+use Rattle.std.proofs.Common.{[], ◌∷◌, sym, ◌∙◌, refl, codes}
 use Rattle.bp_tree.specs.Pending.{pending}
-use Rattle.bp_tree.specs.Header.{IsOpening, range_syms}
+use Rattle.bp_tree.specs.Header.{range_syms}
 use Rattle.bp_tree.specs.Symbols.{Low, Fails, AreSyms, WhyStops}
 use Rattle.bp_tree.proofs.Arms.{fault_onward}
 use Rattle.bp_tree.proofs.Sights.{not_true}
-use Rattle.bp_tree.proofs.Headers.{range_absent, range_fails, range_read, one_opening}
+use Rattle.bp_tree.proofs.Headers.{range_absent, range_fails, range_read, one_opening, opens_with}
 use Rattle.bp_tree.proofs.header.range.Goals as goal
 
 pub returns-in-None : goal.returns-in-None
@@ -19,14 +19,12 @@ returns-else-same c =
 pub returns-in-Ok : goal.returns-in-Ok
 returns-in-Ok c =
     let s = c.in-Some in
-    let P : List ℕ → Type 0 = λ w. IsOpening (pending c.args.from) w (pending s.after) in
-    let o : IsOpening (pending c.args.from) (codes "range") (pending s.after) = subst P (c.if-same.ensures.0 refl) s.ensures in
+    let o = opens_with (pending c.args.from) (pending s.after) s.word.now (codes "range") (c.if-same.ensures.0 refl) s.ensures in
     range_read (pending c.args.from) (pending s.after) (pending c.in-Ok.after) c.in-Ok.lo c.in-Ok.hi o c.in-Ok.ensures
 
 pub returns-in-Err : goal.returns-in-Err
 returns-in-Err c =
     let s = c.in-Some in
-    let P : List ℕ → Type 0 = λ w. IsOpening (pending c.args.from) w (pending s.after) in
-    let o : IsOpening (pending c.args.from) (codes "range") (pending s.after) = subst P (c.if-same.ensures.0 refl) s.ensures in
+    let o = opens_with (pending c.args.from) (pending s.after) s.word.now (codes "range") (c.if-same.ensures.0 refl) s.ensures in
     fault_onward _ c.in-Err.fault _ (Fails (Low ∷ []) (pending s.after)) (WhyStops (AreSyms range_syms) (pending c.args.from)) c.in-Err.ensures
     (λ stop f. range_fails (pending c.args.from) (pending s.after) stop o f)
