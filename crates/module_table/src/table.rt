@@ -109,7 +109,7 @@ impl Table {
         if let Some(name) = exports::conflict(&exports, &more) {
             return Err(fault::conflict(name));
         }
-        let exports = exports::join(more, exports)?;
+        let exports = exports::unite(exports, more)?;
         rows.append(&mut more_rows)?;
         Ok(Table { exports, rows })
     }
