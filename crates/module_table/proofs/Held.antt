@@ -73,7 +73,8 @@ moved_over es k t n o =
 
 -- ---- the first entry is moved, of entries that have each name once
 
-absent : (es : List (Name × Target)) (k : Name) → AllByRecursion (λ y. same_name k y ≡ false) (keys_of es) → held es k ≡ None
+absent : (es : List (Name × Target)) (k : Name)
+    → AllByRecursion (λ y. same_name k y ≡ false) (keys_of es) → held es k ≡ None
 absent [] k a = refl
 absent (e ∷ es) k a = rw (a.0) (absent es k a.1)
 
@@ -85,7 +86,8 @@ moved_first es k t n o once = rw (same_name-swap k n) (go (same_name n k) refl)
     go : (b : Bool) → same_name n k ≡ b
         → option_or (held es n) (cond b (Some t) o) ≡ option_or (cond b (Some t) (held es n)) o
     go true e =
-        let none : held es n ≡ None = ap (held es) (same_name-true n k e) ∙ absent es k (IsDistinct-head same_name k (keys_of es) once) in
+        let apart = IsDistinct-head same_name k (keys_of es) once in
+        let none : held es n ≡ None = ap (held es) (same_name-true n k e) ∙ absent es k apart in
         rw none refl
     go false e = refl
 
