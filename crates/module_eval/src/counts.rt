@@ -7,6 +7,7 @@ ghost use Rattle.module_table.specs.Faults.{Tells};
 ghost use Rattle.module_eval.specs.Counted.{AreCounted, StepsToLeaf, StepsToNode, visit_of};
 
 use crate::node::{Stop, site, stopped};
+use crate::read_path::ReadPath;
 use indexmap::IndexSet;
 use omos_base::{NoMemory, PathName};
 use omos_model::{Fragment, Refusal};
@@ -21,7 +22,7 @@ const MAX_SUM: u32 = 524_288;
 
 /// The counts of an expansion, and the paths that it has read.
 #[derive(Drop)]
-pub struct Counts {
+pub struct Counts<'a> {
     /// The number of the next node of the blueprint that is being read.
     pub node: u32,
     /// How many nodes were counted, of all blueprints.
@@ -32,13 +33,13 @@ pub struct Counts {
     pub exports: u32,
     /// How many fixups the leaves have in all.
     pub fixups: u32,
-    /// The distinct paths read, in order of first reading.
-    pub read: IndexSet<PathName>,
+    /// The distinct paths read, in order of first reading. They are lent.
+    pub read: IndexSet<ReadPath<'a>>,
 }
 
-impl Counts {
+impl<'a> Counts<'a> {
     /// Nothing is counted yet.
-    pub fn new(alloc: Global) -> Counts
+    pub fn new(alloc: Global) -> Counts<'a>
         ensures first { visit_of result ≡ first_visit }
         ensures counted { AreCounted result }
     {
@@ -71,7 +72,7 @@ fn too_large(alloc: Global, at: &PathName, node: u32) -> Stop
 }
 
 /// A node of the blueprint `at` begins.
-pub fn begin_node(at: &PathName, counts: &mut Counts) -> Result<u32, Stop>
+pub fn begin_node(at: &PathName, counts: &mut Counts<'_>) -> Result<u32, Stop>
     requires { AreCounted counts.old }
     ensures walk { StepsToNode result at.now (begin at.now (visit_of counts.old)) counts.new }
     ensures counted { AreCounted counts.new }
@@ -87,7 +88,7 @@ pub fn begin_node(at: &PathName, counts: &mut Counts) -> Result<u32, Stop>
     Ok(node)
 }
 
-fn begin_if(counted: bool, at: &PathName, counts: &mut Counts) -> Result<u32, Stop>
+fn begin_if(counted: bool, at: &PathName, counts: &mut Counts<'_>) -> Result<u32, Stop>
     requires { AreCounted counts.old }
     ensures walk { StepsToNode result at.now
         (begin_path counted at.now (visit_of counts.old)) counts.new }
@@ -101,22 +102,22 @@ fn begin_if(counted: bool, at: &PathName, counts: &mut Counts) -> Result<u32, St
     }
 }
 
-fn note_read(path: &PathName, counts: &mut Counts) -> Result<(), NoMemory>
+fn note_read<'a>(path: &'a PathName, counts: &mut Counts<'a>) -> Result<(), NoMemory>
     requires { AreCounted counts.old }
     ensures read { OnOk result (visit_of counts.new ≡ add_read path.now (visit_of counts.old)) }
     ensures counted { AreCounted counts.new }
     ensures same { counts.new.nodes ≡ counts.old.nodes }
 {
-    counts.read.insert(path.copy())?;
+    counts.read.insert(ReadPath::of(path))?;
     Ok(())
 }
 
 /// The path is read at a node of the blueprint `at`, which is counted but for the requested path.
-pub fn enter(
+pub fn enter<'a>(
     counted: bool,
     at: &PathName,
-    path: &PathName,
-    counts: &mut Counts,
+    path: &'a PathName,
+    counts: &mut Counts<'a>,
 ) -> Result<u32, Stop>
     requires { AreCounted counts.old }
     ensures walk { StepsToNode result at.now
@@ -133,7 +134,7 @@ pub fn count_leaf(
     at: &PathName,
     node: u32,
     fragment: &Fragment,
-    counts: &mut Counts,
+    counts: &mut Counts<'_>,
 ) -> Result<u32, Stop>
     requires { AreCounted counts.old }
     ensures walk { StepsToLeaf result (site_of at.now node) fragment.now

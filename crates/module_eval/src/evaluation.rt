@@ -12,6 +12,7 @@ use crate::counts::Counts;
 use crate::footprint::entries_of;
 use crate::node::Stop;
 use crate::part::Part;
+use crate::read_path::ReadPath;
 use crate::terms::{self, Terms};
 use crate::walk::visit_path;
 use link_model::Evaluated;
@@ -23,7 +24,12 @@ use sqlite_items::Items;
 use std::alloc::Global;
 
 /// Goes to the requested path, which is no node that is counted.
-fn expand(alloc: Global, snap: &Snap, path: &PathName, counts: &mut Counts) -> Result<Part, Stop>
+fn expand<'a>(
+    alloc: Global,
+    snap: &'a Snap,
+    path: &'a PathName,
+    counts: &mut Counts<'a>,
+) -> Result<Part, Stop>
     requires first { visit_of counts.old ≡ first_visit }
     requires counted { AreCounted counts.old }
     ensures { Walked result (expansion snap.now path.now) counts.new }
@@ -38,7 +44,7 @@ fn finish(
     snap: &Snap,
     path: &PathName,
     table: &Table,
-    read: &[PathName],
+    read: &[ReadPath],
 ) -> Result<Evaluated, NoMemory>
     requires { IsBuiltOn snap.now path.now table.now read.now }
     ensures { IfOk result (IsEvaluatedOn snap.now path.now) }

@@ -4,6 +4,7 @@ ghost use Rattle.std.specs.Prelude.{◌≡◌, [], ◌∷◌, ◌++◌, IfOk, On
 ghost use Rattle.std.specs.List.{filter_map};
 ghost use Rattle.omos_model.specs.Namespace.{look_up};
 
+use crate::read_path::ReadPath;
 use name_tree::Snap;
 use omos_base::{NoMemory, PathName, Row};
 use omos_model::Stamped;
@@ -22,12 +23,12 @@ fn add(entries: &mut Row<Stamped>, snap: &Snap, path: &PathName) -> Result<(), N
 }
 
 /// The entries of the paths, in their order. They are shared and not copied.
-pub fn entries_of(alloc: Global, snap: &Snap, paths: &[PathName]) -> Result<Row<Stamped>, NoMemory>
+pub fn entries_of(alloc: Global, snap: &Snap, paths: &[ReadPath]) -> Result<Row<Stamped>, NoMemory>
     ensures { IfOk result (λ entries. entries ≡ filter_map (look_up snap.now) paths.now) }
 {
-    let mut entries = Row::new(alloc);
-    for path in paths {
-        add(&mut entries, snap, path)?;
+    let mut entries = Row::from_vec(Vec::with_capacity(alloc, paths.len())?);
+    for read in paths {
+        add(&mut entries, snap, read.path())?;
     }
     Ok(entries)
 }

@@ -12,6 +12,7 @@ mod object;
 mod opening;
 mod operator;
 mod part;
+mod read_path;
 mod terms;
 mod walk;
 

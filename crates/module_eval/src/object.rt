@@ -17,12 +17,12 @@ use sqlite_items::Boxed;
 
 /// The object of a path as a leaf.
 #[inline(never)]
-pub fn visit_object(
+pub fn visit_object<'a>(
     counted: bool,
     at: &PathName,
-    path: &PathName,
+    path: &'a PathName,
     entry: &Shared<Entry>,
-    counts: &mut Counts,
+    counts: &mut Counts<'a>,
 ) -> Result<Part, Stop>
     requires object { IsObject entry.now }
     requires counted { AreCounted counts.old }

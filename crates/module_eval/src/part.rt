@@ -47,8 +47,9 @@ fn refusal(site: Site, fault: TableFault) -> Refusal
     }
 }
 
-/// What the operator at a node of the blueprint `at` answered, as a part.
-#[inline(never)]
+/// What the operator at a node of the blueprint `at` answered, as a part. It is inlined, and so is
+/// `tables`, so that tables aren't moved more often than they have to be.
+#[inline(always)]
 fn answered(
     alloc: Global,
     at: &PathName,
@@ -69,6 +70,7 @@ fn answered(
 }
 
 /// Both tables, or the refusal that comes first.
+#[inline(always)]
 fn tables(left: Part, right: Part) -> Result<(Table, Table), Boxed<Refusal>>
     ensures { AreBuilt result left right }
 {

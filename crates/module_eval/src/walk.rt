@@ -38,13 +38,13 @@ fn operands_of(operands: &Items<Expr>) -> &[Expr]
 /// The functions that call one another here go at most 32 blueprints deep, of at most 64
 /// parentheses each, with three calls at each.
 #[cycle(visits)]
-pub fn visit_path(
-    snap: &Snap,
+pub fn visit_path<'a>(
+    snap: &'a Snap,
     above: &mut Items<PathName>,
     counted: bool,
     at: &PathName,
-    path: &PathName,
-    counts: &mut Counts,
+    path: &'a PathName,
+    counts: &mut Counts<'a>,
 ) -> Result<Part, Stop>
     requires counted { AreCounted counts.old }
     requires room { length above.old ≤ 32 }
@@ -67,14 +67,14 @@ pub fn visit_path(
 
 /// Opens the blueprint of a path and goes through its expression.
 #[cycle(visits)]
-fn visit_blueprint(
-    snap: &Snap,
+fn visit_blueprint<'a>(
+    snap: &'a Snap,
     above: &mut Items<PathName>,
     counted: bool,
     at: &PathName,
-    path: &PathName,
-    image: &Image,
-    counts: &mut Counts,
+    path: &'a PathName,
+    image: &'a Image,
+    counts: &mut Counts<'a>,
 ) -> Result<Part, Stop>
     requires counted { AreCounted counts.old }
     requires room { length above.old ≤ 32 }
@@ -100,12 +100,12 @@ fn visit_blueprint(
 
 /// Goes through an expression of the blueprint `at`.
 #[cycle(visits)]
-fn visit_expr(
-    snap: &Snap,
+fn visit_expr<'a>(
+    snap: &'a Snap,
     above: &mut Items<PathName>,
     at: &PathName,
-    expr: &Expr,
-    counts: &mut Counts,
+    expr: &'a Expr,
+    counts: &mut Counts<'a>,
 ) -> Result<Part, Stop>
     requires counted { AreCounted counts.old }
     requires room { length above.old ≤ 32 }
@@ -163,13 +163,13 @@ fn visit_expr(
 
 /// Goes through an operator's module.
 #[cycle(visits)]
-fn visit_under(
-    snap: &Snap,
+fn visit_under<'a>(
+    snap: &'a Snap,
     above: &mut Items<PathName>,
     at: &PathName,
     operator: Operator<'_>,
-    body: &Expr,
-    counts: &mut Counts,
+    body: &'a Expr,
+    counts: &mut Counts<'a>,
 ) -> Result<Part, Stop>
     requires counted { AreCounted counts.old }
     requires room { length above.old ≤ 32 }
@@ -187,14 +187,14 @@ fn visit_under(
 
 /// Goes through two modules that are joined.
 #[cycle(visits)]
-fn visit_two(
-    snap: &Snap,
+fn visit_two<'a>(
+    snap: &'a Snap,
     above: &mut Items<PathName>,
     at: &PathName,
     join: Join,
-    left: &Expr,
-    right: &Expr,
-    counts: &mut Counts,
+    left: &'a Expr,
+    right: &'a Expr,
+    counts: &mut Counts<'a>,
 ) -> Result<Part, Stop>
     requires counted { AreCounted counts.old }
     requires room { length above.old ≤ 32 }
@@ -215,12 +215,12 @@ fn visit_two(
 
 /// Goes through the operands of a merge, of which there are at least two.
 #[cycle(visits)]
-fn visit_operands(
-    snap: &Snap,
+fn visit_operands<'a>(
+    snap: &'a Snap,
     above: &mut Items<PathName>,
     at: &PathName,
-    operands: &[Expr],
-    counts: &mut Counts,
+    operands: &'a [Expr],
+    counts: &mut Counts<'a>,
 ) -> Result<Part, Stop>
     requires counted { AreCounted counts.old }
     requires room { length above.old ≤ 32 }
@@ -243,14 +243,14 @@ fn visit_operands(
 /// Goes through further operands of the merge at a node of the blueprint `at`; `left` is what
 /// stands to their left.
 #[cycle(visits)]
-fn visit_more(
-    snap: &Snap,
+fn visit_more<'a>(
+    snap: &'a Snap,
     above: &mut Items<PathName>,
     at: &PathName,
     node: u32,
     left: Part,
-    operands: &[Expr],
-    counts: &mut Counts,
+    operands: &'a [Expr],
+    counts: &mut Counts<'a>,
 ) -> Result<Part, Stop>
     requires counted { AreCounted counts.old }
     requires room { length above.old ≤ 32 }

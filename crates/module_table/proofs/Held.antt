@@ -4,7 +4,9 @@ use Rattle.std.proofs.Common.{Option, Some, None, refl, sym, ap, ◌∙◌, cond
 use Rattle.std.proofs.Common.{subst, add-one}
 use Rattle.std.specs.Prelude.{is_some}
 use Rattle.std.specs.Option.{option_or}
+use Rattle.std.specs.List.{AllByRecursion, IsDistinct}
 use Rattle.std.specs.Map.{keys_of}
+use Rattle.std.proofs.lemmas.Map.Keys.{IsDistinct-head}
 use Rattle.std.proofs.Math.Seq.{drop-cons}
 use Rattle.std.proofs.lemmas.Bool.{and_parts}
 use Rattle.omos_model.specs.Names.{Name, same_name}
@@ -68,6 +70,26 @@ pub moved_over : (es : List (Name × Target)) (k : Name) (t : Target) (n : Name)
     → option_or (held es n) (cond (same_name k n) (Some t) o) ≡ option_or (held (es ++ (k, t) ∷ []) n) o
 moved_over es k t n o =
     rw (held-last es k t n, same_name-swap k n, put_first (same_name n k) t o) (sym (option_or_assoc (held es n) (cond (same_name n k) (Some t) None) o))
+
+-- ---- the first entry is moved, of entries that have each name once
+
+absent : (es : List (Name × Target)) (k : Name)
+    → AllByRecursion (λ y. same_name k y ≡ false) (keys_of es) → held es k ≡ None
+absent [] k a = refl
+absent (e ∷ es) k a = rw (a.0) (absent es k a.1)
+
+pub moved_first : (es : List (Name × Target)) (k : Name) (t : Target) (n : Name) (o : Option Target)
+    → IsDistinct same_name (keys_of ((k, t) ∷ es))
+    → option_or (held es n) (cond (same_name k n) (Some t) o) ≡ option_or (held ((k, t) ∷ es) n) o
+moved_first es k t n o once = rw (same_name-swap k n) (go (same_name n k) refl)
+  where
+    go : (b : Bool) → same_name n k ≡ b
+        → option_or (held es n) (cond b (Some t) o) ≡ option_or (cond b (Some t) (held es n)) o
+    go true e =
+        let apart = IsDistinct-head same_name k (keys_of es) once in
+        let none : held es n ≡ None = ap (held es) (same_name-true n k e) ∙ absent es k apart in
+        rw none refl
+    go false e = refl
 
 -- where at most one is there, the order does not count
 or_turned : (a b : Option Target) → (is_some a ≡ true → b ≡ None) → option_or a b ≡ option_or b a

@@ -1,7 +1,6 @@
 -- Two tables that stand for two terms, put together.
-use Rattle.std.proofs.Common.{◌≡◌, Bool, ◌&&◌, Option, Some, None, Err, sym, ◌∙◌, subst}
+use Rattle.std.proofs.Common.{◌≡◌, Bool, ◌&&◌, Option, Some, Err, sym, ◌∙◌, subst}
 use Rattle.std.specs.Prelude.{is_some}
-use Rattle.std.specs.Option.{option_or}
 use Rattle.omos_base.specs.declared.fault.Fault.{Fault}
 use Rattle.omos_base.specs.declared.fault.Fault.TheVariants.{Refused, NoMemory}
 use Rattle.omos_model.specs.Names.{Name}

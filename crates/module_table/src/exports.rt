@@ -1,6 +1,6 @@
 //! The definitions of a table, and what each operator makes of them.
 
-ghost use Rattle.std.specs.Prelude.{◌≡◌, ◌&&◌, if◌then◌else◌, IfOk, OnOk, IsSome, is_some};
+ghost use Rattle.std.specs.Prelude.{◌≡◌, ◌&&◌, false, if◌then◌else◌, IfOk, OnOk, IsSome, is_some};
 ghost use Rattle.std.specs.Prelude.{None, Some};
 ghost use Rattle.std.specs.Map.{keys_of};
 ghost use Rattle.std.specs.Option.{option_copied, option_or};
@@ -163,8 +163,7 @@ fn overwrite(
     ensures { OnOk result ((n : Name) → held into.new.entries n
         ≡ option_or (held from.entries n) (held into.old.entries n)) }
 {
-    let mut from = from;
-    'entries: while let Some((name, target)) = from.pop() {
+    'entries: for (name, target) in from {
         into.insert(name, target)?;
     }
     Ok(())
@@ -199,6 +198,26 @@ fn fill(
         add_missing(into, name, target)?;
     }
     Ok(())
+}
+
+/// The definitions of both, which have no name in common. The fewer are moved to the more.
+pub fn unite(
+    left: IndexMap<SymName, Target>,
+    right: IndexMap<SymName, Target>,
+) -> Result<IndexMap<SymName, Target>, NoMemory>
+    requires apart { (n : Name) →
+        (is_some (held left.entries n) && is_some (held right.entries n)) ≡ false }
+    ensures { IfOk result (λ m. (n : Name) → held m.entries n
+        ≡ option_or (held left.entries n) (held right.entries n)) }
+{
+    let mut left = left;
+    let mut right = right;
+    if left.len() < right.len() {
+        overwrite(&mut right, left)?;
+        return Ok(right);
+    }
+    overwrite(&mut left, right)?;
+    Ok(left)
 }
 
 /// The definitions of both, where the right wins. The fewer are moved to the more.

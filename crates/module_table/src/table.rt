@@ -50,7 +50,7 @@ impl Table {
         };
         let exports = exports::of_leaf(alloc, fragment.exports(), number)?;
         let marks = marks::of_leaf(alloc, fragment.fixups(), number)?;
-        let mut rows = Vec::new(alloc);
+        let mut rows = Vec::with_capacity(alloc, 1)?;
         rows.push(MarkRow {
             number,
             entry,
@@ -109,7 +109,7 @@ impl Table {
         if let Some(name) = exports::conflict(&exports, &more) {
             return Err(fault::conflict(name));
         }
-        let exports = exports::join(more, exports)?;
+        let exports = exports::unite(exports, more)?;
         rows.append(&mut more_rows)?;
         Ok(Table { exports, rows })
     }
