@@ -21,7 +21,7 @@ pub fn share_entry(stamped: &Stamped) -> Result<Stamped, NoMemory>
 pub fn share_entries(alloc: Global, entries: &[Stamped]) -> Result<Row<Stamped>, NoMemory>
     ensures { IfOk result (λ shared. shared ≡ entries.now) }
 {
-    let mut shared = Row::new(alloc);
+    let mut shared = Row::from_vec(Vec::with_capacity(alloc, entries.len())?);
     for stamped in entries {
         shared.push(share_entry(stamped)?)?;
     }
