@@ -27,7 +27,7 @@ fn landing_of(table: &Table, mark: &Mark) -> Result<Landing, NoMemory>
 fn landings_of_leaf(alloc: Global, table: &Table, row: &MarkRow) -> Result<Row<Landing>, NoMemory>
     ensures { IfOk result (λ xs. xs ≡ map (landed (defined_in table.now)) row.now.marks) }
 {
-    let mut landings = Row::new(alloc);
+    let mut landings = Row::from_vec(Vec::with_capacity(alloc, row.marks.len())?);
     for mark in row.marks.as_slice() {
         landings.push(landing_of(table, mark)?)?;
     }
@@ -39,7 +39,7 @@ pub(crate) fn landings(alloc: Global, table: &Table) -> Result<Row<Row<Landing>>
     ensures { IfOk result
         (λ xs. xs ≡ map (λ r. map (landed (defined_in table.now)) r.marks) table.now.rows) }
 {
-    let mut landings = Row::new(alloc);
+    let mut landings = Row::from_vec(Vec::with_capacity(alloc, table.rows().len())?);
     for row in table.rows() {
         landings.push(landings_of_leaf(alloc, table, row)?)?;
     }
@@ -50,7 +50,7 @@ pub(crate) fn landings(alloc: Global, table: &Table) -> Result<Row<Row<Landing>>
 pub(crate) fn leaves(alloc: Global, table: &Table) -> Result<Row<Shared<Entry>>, NoMemory>
     ensures { IfOk result (λ xs. xs ≡ map (λ r. r.entry) table.now.rows) }
 {
-    let mut leaves = Row::new(alloc);
+    let mut leaves = Row::from_vec(Vec::with_capacity(alloc, table.rows().len())?);
     for row in table.rows() {
         leaves.push(row.entry.twin()?)?;
     }
@@ -62,7 +62,7 @@ pub(crate) fn names(alloc: Global, table: &Table) -> Result<Row<Found>, NoMemory
     ensures { IfOk result (λ xs. (n : Name) → found xs n ≡ defined_in table.now n) }
 {
     let names = table.names()?;
-    let mut found = Row::new(alloc);
+    let mut found = Row::from_vec(Vec::with_capacity(alloc, names.len())?);
     for name in names.as_slice() {
         if let Some(target) = table.find(name) {
             found.push(Found {

@@ -10,7 +10,7 @@ use std::alloc::Global;
 pub fn share_entries(alloc: Global, entries: &[Stamped]) -> Result<Row<Stamped>, NoMemory>
     ensures { IfOk result (λ shared. shared ≡ entries.now) }
 {
-    let mut shared = Row::new(alloc);
+    let mut shared = Row::from_vec(Vec::with_capacity(alloc, entries.len())?);
     for stamped in entries {
         shared.push(stamped.twin()?)?;
     }
