@@ -1,6 +1,6 @@
 -- What a file without a fault lets its tables be read by.
-use Rattle.std.proofs.Common.{◌≡◌, ℕ, ◌+◌, ◌<◌, ◌≤◌, ◌==◌, Bool, true, false, not, ◌&&◌}
-use Rattle.std.proofs.Common.{◌||◌, List, None, length, arith}
+use Rattle.std.proofs.Common.{◌≡◌, ℕ, ◌+◌, ◌<◌, ◌≤◌, ◌==◌, true, false, not}
+use Rattle.std.proofs.Common.{List, None, length, arith}
 use Rattle.std.proofs.lemmas.Bool.{and_parts, or_parts, not-false, ltb-true, leb-true}
 use Rattle.std.proofs.lemmas.Bool.{not_from_false, not_from_true}
 use Rattle.omos_model.specs.Names.{is_symbol_name}
@@ -10,7 +10,8 @@ use Rattle.omos_model.specs.ElfFaults.{has_name, is_kept, is_nobits, is_used_rel
 use Rattle.omos_model.specs.ElfFaults.{is_right_rela, is_wrong_rela, is_wrong_symbol, object_fault, rela}
 use Rattle.elf_object.specs.Stages.{IsReadable}
 use Rattle.omos_model.proofs.Joined.{rest_false, rest_true}
-use Rattle.omos_model.proofs.RightFile.{IsSectionNumber, IsSymbolNumber, right_file}
+use Rattle.omos_model.proofs.Pieces.{section_number}
+use Rattle.omos_model.proofs.RightFile.{IsSymbolNumber, right_file}
 
 -- ---- sections
 
@@ -20,19 +21,13 @@ section_there file i h = ltb-true i (e_shnum file) (and_parts _ _ h).1
 pub kept_there : (file : List ℕ) (i : ℕ) → is_kept file i ≡ true → i < e_shnum file
 kept_there file i h = section_there file i (and_parts _ _ (and_parts _ _ h).0).0
 
-numbered : (file : List ℕ) (i : ℕ) → is_section file i ≡ true → IsSectionNumber file i
-numbered file i h =
-    let low : 0 < i = ltb-true 0 i (and_parts _ _ h).0 in
-    let high : i < e_shnum file = section_there file i h in
-    record { low = omega arith; high = omega arith }
-
 -- a kept section that isn't NOBITS lies in the file
 pub kept_inside : (file : List ℕ) (i : ℕ) → object_fault file ≡ None → is_kept file i ≡ true
     → is_nobits file i ≡ false → lies_in_file file i ≡ true
 kept_inside file i right kept bits =
     let section = (and_parts _ _ (and_parts _ _ kept).0).0 in
     let fine = rest_false (is_kept file i) _
-    ((right_file file right).sections i (numbered file i section)) kept in
+    ((right_file file right).sections i (section_number file i section)) kept in
     not-false _ (rest_false (not (is_nobits file i)) (not (lies_in_file file i))
     (or_parts _ _ fine).1 (not_from_false _ bits))
 
@@ -57,7 +52,7 @@ pub used_inside : (file : List ℕ) (i : ℕ) → object_fault file ≡ None →
     → is_used_rela file i ≡ true → IsReadable file i
 used_inside file i right section used =
     readable file i (section_there file i section)
-    ((right_file file right).relas i (numbered file i section)) used
+    ((right_file file right).relas i (section_number file i section)) used
 
 -- ---- symbols
 

@@ -13,7 +13,7 @@ use Rattle.std.proofs.lemmas.List.Sums.{count_by-le-length, sum_by_push}
 use Rattle.omos_model.specs.ElfFaults.{is_kept, object_fault}
 use Rattle.omos_model.specs.ElfFields.{e_shnum}
 use Rattle.omos_model.specs.FragmentOf.{common_piece, is_common, kept_sections, section_piece}
-use Rattle.omos_model.proofs.Ranges.{length_filtered}
+use Rattle.omos_model.proofs.Ranges.{length-numbers_from, length_filtered}
 use Rattle.omos_model.proofs.RightFile.{right_file}
 use Rattle.omos_model.specs.Numbers.{numbers_from}
 
@@ -58,12 +58,8 @@ pub count_more : (p : ℕ → Bool) (i : ℕ) → 1 ≤ i
     → count_by p (numbers_from 1 (i + 1 - 1)) ≡ count_by p (numbers_from 1 (i - 1)) + cond (p i) 1 0
 count_more p i h = ap (count_by p) (up_to i h) ∙ sum_by_push (λ n. cond (p n) 1 0) (numbers_from 1 (i - 1)) i
 
-pub length_numbers : (s c : ℕ) → length (numbers_from s c) ≡ c
-length_numbers s zero = refl
-length_numbers s (suc c) = ap suc (length_numbers (s + 1) c)
-
 pub count_bound : (p : ℕ → Bool) (c : ℕ) → count_by p (numbers_from 1 c) ≤ c
-count_bound p c = omega (arith, count_by-le-length p (numbers_from 1 c), length_numbers 1 c)
+count_bound p c = omega (arith, count_by-le-length p (numbers_from 1 c), length-numbers_from 1 c)
 
 -- a section that is kept is counted for those after it
 pub section_piece_more : (file : List ℕ) (i : ℕ)

@@ -16,7 +16,7 @@ use Rattle.omos_model.specs.Numbers.{numbers_from}
 use Rattle.omos_model.specs.ElfFaults.{common, entry_count, has_name, has_right_section, is_export, is_kept}
 use Rattle.omos_model.specs.ElfFaults.{is_aim_of, is_in_target, is_local, is_of_dropped, is_used_rela, is_wrong_entry, kind_of, object_fault}
 use Rattle.omos_model.specs.FragmentOf.{is_common}
-use Rattle.omos_model.proofs.Joined.{rest_false, rest_true}
+use Rattle.omos_model.proofs.Joined.{fourth, rest_false, rest_true}
 use Rattle.omos_model.proofs.Pieces.{kept_section, section_number}
 use Rattle.omos_model.proofs.Ranges.{InRange}
 use Rattle.omos_model.proofs.RightFile.{IsSymbolNumber, right_file, right_symbol}
@@ -98,12 +98,6 @@ is_place false false false true true true h x y z = refl
 is_place false false false true true false h x y z = refl
 
 -- of four tests the last holds where the others fail
-fourth : (a b c d : Bool) → (a || b || c || d) ≡ true → a ≡ false → b ≡ false → c ≡ false → d ≡ true
-fourth true b c d h x y z = cc
-fourth false true c d h x y z = cc
-fourth false false true d h x y z = cc
-fourth false false false d h x y z = h
-
 or_assoc_true : (a b c : Bool) → (a || b || c) ≡ true → (a || (b || c)) ≡ true
 or_assoc_true true b c h = refl
 or_assoc_true false b c h = h

@@ -3,7 +3,6 @@ use Rattle.std.proofs.Common.{◌≡◌, ℕ, zero, suc, ◌+◌, ◌-◌, ◌*�
 use Rattle.std.specs.Prelude.{if◌then◌else◌, is_some, slice_get, slice_index}
 use Rattle.std.specs.List.{find, flat_map, zip}
 use Rattle.std.specs.Option.{option_map, option_or}
-use Rattle.std.proofs.lemmas.Bool.Decides.{nat_tests}
 use Rattle.std.proofs.lemmas.List.{get_or-map, get_or-replicate, get_or_default, length-map, length-replicate, same_lists}
 use Rattle.std.proofs.lemmas.List.Elements.{All-append, All-head, All-nil, All-same, All-tail}
 use Rattle.std.proofs.lemmas.Slice.Zip.{length-zip, get_or-zip}
@@ -31,6 +30,7 @@ use Rattle.image_write.specs.Sections.{Placed, byte_at, first_byte, placed_in}
 use Rattle.image_write.specs.Standing.{LeafStands, LeavesStand, Stands}
 use Rattle.image_write.proofs.Lawful.{piece-bytes, tested}
 use Rattle.image_write.proofs.Sectioned.{placed-more}
+use Rattle.image_write.proofs.Slotted.{covers-below}
 
 -- ---- addresses and fields
 
@@ -80,9 +80,6 @@ zeros-begin Consts parts h = cc
 zeros-begin Vars parts h = cc
 zeros-begin Zeros parts h = refl
 
-outside : (begin size x : ℕ) → x < begin → covers begin size x ≡ false
-outside begin size x h = grind (arith, nat_tests)
-
 -- below the file's end a piece has a byte where its size says so
 abbrev Agrees : ℕ → Placed → Type 0
 Agrees x y = covers y.0 (length y.1.bytes) x ≡ covers y.0 y.1.size x
@@ -94,7 +91,7 @@ agrees parts x lt y h p = go (is_zeros y.1.group) refl where
       let z = zeros-begin y.1.group parts e in
       let from = h.from in
       let behind : x < y.0 = omega (arith, z, from) in
-      outside y.0 (length y.1.bytes) x behind ∙ sym (outside y.0 y.1.size x behind)
+      covers-below y.0 (length y.1.bytes) x behind ∙ sym (covers-below y.0 y.1.size x behind)
   go false e =
       ap (λ n. covers y.0 n x) (piece-bytes y.1 p ∙ (λ i. if e i then 0 else y.1.size))
 

@@ -53,7 +53,7 @@ slot_byte_in places base slots begin x =
 covers-yes : (begin size x : ℕ) → begin ≤ x → x < begin + size → covers begin size x ≡ true
 covers-yes begin size x h k = grind (arith, nat_tests)
 
-covers-below : (begin size x : ℕ) → x < begin → covers begin size x ≡ false
+pub covers-below : (begin size x : ℕ) → x < begin → covers begin size x ≡ false
 covers-below begin size x h = grind (arith, nat_tests)
 
 covers-behind : (begin size x : ℕ) → begin + size ≤ x → covers begin size x ≡ false

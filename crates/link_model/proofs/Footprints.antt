@@ -15,22 +15,12 @@ use Rattle.omos_model.specs.Footprint.{footprint, footprint_of}
 use Rattle.omos_model.specs.declared.entry.Stamped.{Stamped}
 use Rattle.omos_model.specs.declared.visit.Visit.{Visit}
 use Rattle.omos_model.proofs.Names.{same_name-true, same_name-swap, same_name-refl}
-use Rattle.omos_model.proofs.PathsRead.{footprint_law}
+use Rattle.omos_model.proofs.PathsRead.{footprint_law, found_path}
 use Rattle.link_model.specs.Answer.{answer_of_plan}
 use Rattle.link_model.specs.Laws.{FrameLaw, OwnFrameLaw, HasEntries, SameLink}
 use Rattle.link_model.specs.Plan.{plan_of, plan_of_expansion, terms_at}
 use Rattle.link_model.specs.Program.{terms_of}
 use Rattle.link_model.proofs.Frame.{Same, expand_same}
-
-found_path : (ns : Space) (p : Name) (s : Stamped) → look_up ns p ≡ Some s → s.path ≡ p
-found_path [] p s h = cc
-found_path (x ∷ xs) p s h = go (same_name p x.path) refl h (found_path xs p s)
-  where
-    go : (c : Bool) → same_name p x.path ≡ c
-        → cond c (Some x) (look_up xs p) ≡ Some s → (look_up xs p ≡ Some s → s.path ≡ p)
-        → s.path ≡ p
-    go true e k i = let same : x ≡ s = cc in ap (λ (y : Stamped). y.path) (sym same) ∙ sym (same_name-true p x.path e)
-    go false e k i = i k
 
 -- ---- the entries of paths that are all there
 

@@ -8,7 +8,6 @@ use Rattle.std.specs.Option.{option_map}
 use Rattle.std.proofs.lemmas.Bool.{and_parts, and_from, and_right, or_from, not-true, not-false}
 use Rattle.std.proofs.lemmas.Bool.{not_from_false, leb-true, ltb-true, le-leb, lt-ltb, eqb-true}
 use Rattle.std.proofs.lemmas.Bool.{eqb-false, and_left, or_parts, not_from_true, false_from_ne_true}
-use Rattle.std.proofs.lemmas.Bool.{true≢false}
 use Rattle.std.proofs.lemmas.Option.{none-some}
 use Rattle.std.proofs.lemmas.List.Folds.{list_all-map}
 use Rattle.omos_model.specs.Names.{Name, same_name}
@@ -34,6 +33,7 @@ use Rattle.omos_model.specs.declared.fragment.Fixup.{Fixup}
 use Rattle.omos_model.specs.declared.fragment.Kind.{Kind}
 use Rattle.omos_model.specs.declared.fragment.Spot.TheVariants.{Inside, Fixed}
 use Rattle.omos_model.specs.declared.refusal.ObjectFault.{ObjectFault}
+use Rattle.omos_model.proofs.Joined.{fourth, rest_false}
 use Rattle.omos_model.proofs.Names.{same_name-swap}
 use Rattle.omos_model.proofs.Ranges.{InRange, rest_in, first_in, any_none, all_filtered}
 use Rattle.omos_model.proofs.Ranges.{length_filtered, length-map, total_bound, length-pairs}
@@ -53,18 +53,7 @@ or_not : (a b : Bool) → (not a || b) ≡ true → a ≡ true → b ≡ true
 or_not true b h e = h
 or_not false b h e = cc
 
-second : (a b : Bool) → (a && b) ≡ false → a ≡ true → b ≡ false
-second true b h e = h
-second false b h e = cc
-
 -- ---- spots
-
-last_of : (a b c d : Bool) → (a || b || c || d) ≡ true → a ≡ false → b ≡ false → c ≡ false
-    → d ≡ true
-last_of false false false d h x y z = h
-last_of true b c d h x y z = absurd (true≢false x)
-last_of false true c d h x y z = absurd (true≢false y)
-last_of false false true d h x y z = absurd (true≢false z)
 
 -- a symbol that isn't undefined, and not of a section that isn't kept, has a spot in the pieces
 right_spot : (file : List ℕ) → RightFile file → (k : ℕ) → IsSymbolNumber file k
@@ -82,7 +71,7 @@ right_spot file right k within defined kept = go (st_shndx file k == abs) refl
         → is_spot (pieces_of file) (Inside (section_piece file n) (st_value file k)) ≡ true
     in_section a c =
         let there : is_section file n ≡ true =
-        last_of (not (is_local file k) && (n == undef)) (n == abs) _ (is_section file n) symbol.index defined a (and_right _ (n == common) c) in
+        fourth (not (is_local file k) && (n == undef)) (n == abs) _ (is_section file n) symbol.index defined a (and_right _ (n == common) c) in
         let loads : is_kept file n ≡ true = and_not (is_section file n) (is_kept file n) kept there in
         let small : nat_le (st_value file k) (sh_size file n) ≡ true =
         or_not (is_kept file n) _ (and_parts (not (is_kept file n) || nat_le (st_value file k) (sh_size file n)) (not (has_name file k && is_of_dropped file k)) symbol.value).0 loads in
@@ -109,7 +98,7 @@ right_export file right k within h =
     let parts = and_parts (has_name file k) (not (st_shndx file k == undef)) h in
     let value = (right_symbol file right k within).value in
     let fine = (and_parts (not (is_kept file (st_shndx file k)) || nat_le (st_value file k) (sh_size file (st_shndx file k))) (not (has_name file k && is_of_dropped file k)) value).1 in
-    right_spot file right k within (and_right _ _ (not-true (st_shndx file k == undef) parts.1)) (second (has_name file k) (is_of_dropped file k) (not-true (has_name file k && is_of_dropped file k) fine) parts.0)
+    right_spot file right k within (and_right _ _ (not-true (st_shndx file k == undef) parts.1)) (rest_false (has_name file k) (is_of_dropped file k) (not-true (has_name file k && is_of_dropped file k) fine) parts.0)
 
 right_exports : (file : List ℕ) → RightFile file
     → list_all (λ x. is_spot (pieces_of file) x.spot) (exports_of file) ≡ true
@@ -161,8 +150,8 @@ distinct_exports file right =
     distinct_from file 1 (symbol_count file - 1) (
     λ j k a b below x y.
     let below_k : InRange 1 (k - 1) j = record { low = a.low; high = omega (arith, a.low, below) } in
-    let none = second (is_export file k) (list_any (λ i. is_export file i && same_name (name_of file k) (name_of file i)) (numbers_from 1 (k - 1))) (right.names k b) y in
-    second (is_export file j) (same_name (name_of file k) (name_of file j))
+    let none = rest_false (is_export file k) (list_any (λ i. is_export file i && same_name (name_of file k) (name_of file i)) (numbers_from 1 (k - 1))) (right.names k b) y in
+    rest_false (is_export file j) (same_name (name_of file k) (name_of file j))
     (any_none (λ i. is_export file i && same_name (name_of file k) (name_of file i)) 1 (k - 1) none j below_k) x
     )
 
@@ -172,7 +161,7 @@ right_rela : (file : List ℕ) → RightFile file → (i : ℕ) → IsSectionNum
     → is_used_rela file i ≡ true → is_right_rela file i ≡ true
 right_rela file right i within h =
     let is_rela = (and_parts (sh_type file i == 4) (is_kept file (sh_info file i)) h).0 in
-    let fine = second (sh_type file i == 4) (not (nat_lt (sh_info file i) (e_shnum file)) || (is_used_rela file i && not (is_right_rela file i))) (right.relas i within) is_rela in
+    let fine = rest_false (sh_type file i == 4) (not (nat_lt (sh_info file i) (e_shnum file)) || (is_used_rela file i && not (is_right_rela file i))) (right.relas i within) is_rela in
     and_not (is_used_rela file i) (is_right_rela file i) (or_parts (not (nat_lt (sh_info file i) (e_shnum file))) (is_used_rela file i && not (is_right_rela file i)) fine).1 h
 
 few_entries : (file : List ℕ) → RightFile file → length (entries file) ≤ 65535
@@ -247,7 +236,7 @@ right_fixup file right e y h is = go (kind_of (r_type file e.0 e.1)) refl is
             let named : (nat_lt 0 k && is_local file k) ≡ true = and_from (nat_lt 0 k) (is_local file k) (lt-ltb 0 k some) l in
             right_spot file right k (record { low = omega (arith, some); high = omega (arith, below, some) })
             (and_left (not (is_local file k)) (st_shndx file k == undef) (not_from_true (is_local file k) l))
-            (second (nat_lt 0 k && is_local file k) (is_of_dropped file k) (not-true _ known.1) named)
+            (rest_false (nat_lt 0 k && is_local file k) (is_of_dropped file k) (not-true _ known.1) named)
 
         at_zero : (b : Bool) → (k == 0) ≡ b
             → is_aim (pieces_of file) (cond b (aim.At (Fixed 0)) (cond (is_local file k) (aim.At (spot_of file k)) (aim.Name (name_of file k) ((st_shndx file k == undef) && (binding file k == 2))))) ≡ true

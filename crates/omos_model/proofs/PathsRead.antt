@@ -85,7 +85,7 @@ first_read ns path s e =
 
 -- ---- the entries of the paths read
 
-found_path : (ns : Space) (p : Name) (s : Stamped) → look_up ns p ≡ Some s → s.path ≡ p
+pub found_path : (ns : Space) (p : Name) (s : Stamped) → look_up ns p ≡ Some s → s.path ≡ p
 found_path [] p s h = cc
 found_path (x ∷ xs) p s h = go (same_name p x.path) refl h (found_path xs p s)
   where

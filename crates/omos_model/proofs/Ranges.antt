@@ -135,7 +135,7 @@ total_bound q size most (suc c) h =
 abbrev pub pairs : (ℕ → ℕ) → List ℕ → List (ℕ × ℕ)
 pairs count is = flat_map (λ i. map (λ j. (i, j)) (numbers_from 0 (count i))) is
 
-length-numbers_from : (s c : ℕ) → length (numbers_from s c) ≡ c
+pub length-numbers_from : (s c : ℕ) → length (numbers_from s c) ≡ c
 length-numbers_from s zero = refl
 length-numbers_from s (suc c) = let e : length (numbers_from (s + 1) c) ≡ c = length-numbers_from (s + 1) c in omega (arith, e)
 

@@ -16,7 +16,7 @@ use Rattle.omos_model.specs.State.{mark_at}
 use Rattle.omos_model.specs.FirstRefusal.{both_define}
 use Rattle.omos_model.specs.Laws.{HideLaw, MergeLaw, OverrideLaw, StatesLaw, RowsLaw, has_leaf}
 use Rattle.omos_model.specs.Laws.{are_apart, restrict_each, shared}
-use Rattle.omos_model.proofs.Joined.{option_or_None, option_or_assoc}
+use Rattle.omos_model.proofs.Joined.{option_or_None, option_or_assoc, or_some}
 use Rattle.omos_model.proofs.Names.{same_name-true, same_name-swap}
 use Rattle.omos_model.specs.declared.refusal.Site.{Site}
 use Rattle.omos_model.specs.declared.mark.Target.{Target}
@@ -37,13 +37,6 @@ option_or_swaps (Some x) (Some y) h = cc
 option_map_some : {X Y : Type 0} (f : X → Y) (o : Option X) → is_some (option_map f o) ≡ is_some o
 option_map_some f None = refl
 option_map_some f (Some x) = refl
-
-or_some : {X : Type 0} (a b : Option X) (p q : Bool) → (is_some a ≡ true → p ≡ true)
-    → (is_some b ≡ true → q ≡ true)
-    → is_some (option_or a b) ≡ true → (p || q) ≡ true
-or_some None b p q h k e =
-    rw (k e) (elim p as (λ v. (v || true) ≡ true) [ true ↦ refl | false ↦ refl ])
-or_some (Some x) b p q h k e = rw (h refl) refl
 
 cond_some : {X : Type 0} (b : Bool) (o : Option X) → is_some (cond b o None) ≡ true
     → (b || false) ≡ true

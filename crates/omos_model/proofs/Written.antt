@@ -2,7 +2,6 @@
 use Rattle.std.proofs.Common.{◌≡◌, ℕ, Bool, true, false, ◌||◌, List, [], ◌∷◌, Option, Some, None}
 use Rattle.std.proofs.Common.{refl, sym, ◌∙◌, ◌⊎◌, inl, inr, fold, map, true≢false}
 use Rattle.std.specs.Prelude.{is_some}
-use Rattle.std.specs.Option.{option_or}
 use Rattle.std.proofs.lemmas.List.Folds.{list_any-append}
 use Rattle.std.proofs.lemmas.Bool.{and_parts, or_left, or_right}
 use Rattle.omos_model.specs.Names.{Name, same_name}
@@ -13,15 +12,11 @@ use Rattle.omos_model.specs.Definition.{Meaning, definition, defined_by, exporte
 use Rattle.omos_model.specs.Definition.{written, given_by}
 use Rattle.omos_model.specs.Laws.{ConflictLaw}
 use Rattle.omos_model.specs.declared.fragment.Export.{Export}
+use Rattle.omos_model.proofs.Joined.{or_some}
 use Rattle.omos_model.proofs.Least.{least-IsLeast}
 use Rattle.omos_model.proofs.Names.{same_name-refl, same_name-swap}
 
 -- a test on names that holds of what is found or of the rest
-either : {X : Type 0} (a b : Option X) (p q : Bool) → (is_some a ≡ true → p ≡ true)
-    → (is_some b ≡ true → q ≡ true) → is_some (option_or a b) ≡ true → (p || q) ≡ true
-either None b p q h k e = or_right p q (k e)
-either (Some x) b p q h k e = or_left p q (h refl)
-
 leaf_written : (leaf : ℕ) (xs : List Export) (n : Name) → is_some (exported leaf xs n) ≡ true
     → is_among (map (λ x. x.name) xs) n ≡ true
 leaf_written leaf [] n h = h
@@ -76,10 +71,10 @@ pub written_all : (t : Term) (n : Name) → is_defined t n ≡ true → is_among
 written_all (Leaf s leaf f) n h = leaf_written leaf f.exports n h
 written_all (Merge s l r) n h =
     list_any-append _ (written l) (written r)
-    ∙ either (definition l n) (definition r n) _ _ (written_all l n) (written_all r n) h
+    ∙ or_some (definition l n) (definition r n) _ _ (written_all l n) (written_all r n) h
 written_all (Override s l r) n h =
     list_any-append _ (written l) (written r)
-    ∙ or_swap (is_among (written l) n) (is_among (written r) n) (either (definition r n) (definition l n) _ _ (written_all r n) (written_all l n) h)
+    ∙ or_swap (is_among (written l) n) (is_among (written r) n) (or_some (definition r n) (definition l n) _ _ (written_all r n) (written_all l n) h)
 written_all (Apply s op u) n h =
     list_any-append _ (given_by op) (written u)
     ∙ elim (given_or_below op (definition u) n h) [ inl e ↦ or_left _ _ e | inr e ↦ or_right _ _ (written_all u n e) ]
