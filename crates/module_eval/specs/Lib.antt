@@ -1,5 +1,6 @@
 pub mod Counted
 pub mod Operators
+pub mod LeafParts
 pub mod Meant
 pub mod Walked
 pub mod Evaluations

@@ -11,7 +11,7 @@ ghost use Rattle.module_eval.specs.Walked.{Walked};
 use crate::counts::Counts;
 use crate::footprint::entries_of;
 use crate::node::Stop;
-use crate::part::Part;
+use crate::part::{Part, built};
 use crate::read_path::ReadPath;
 use crate::terms::{self, Terms};
 use crate::walk::visit_path;
@@ -74,10 +74,10 @@ pub fn evaluate(alloc: Global, snap: &Snap, path: &PathName) -> Result<Evaluated
 {
     let mut counts = Counts::new(alloc);
     match expand(alloc, snap, path, &mut counts) {
-        Ok(Part::Built(table)) => {
-            Ok(finish(alloc, snap, path, table.get(), counts.read.as_slice())?)
-        }
-        Ok(Part::Failed(refusal)) => Err(Fault::Refused(refusal.into_inner())),
+        Ok(part) => match built(alloc, part)? {
+            Ok(table) => { Ok(finish(alloc, snap, path, table.get(), counts.read.as_slice())?) }
+            Err(refusal) => Err(Fault::Refused(refusal.into_inner())),
+        },
         Err(Fault::Refused(refusal)) => Err(Fault::Refused(refusal.into_inner())),
         Err(Fault::NoMemory) => Err(Fault::NoMemory),
     }

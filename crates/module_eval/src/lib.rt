@@ -7,12 +7,14 @@
 mod counts;
 mod evaluation;
 mod footprint;
+mod leaf;
 mod node;
 mod object;
 mod opening;
 mod operator;
 mod part;
 mod read_path;
+mod table_box;
 mod terms;
 mod walk;
 

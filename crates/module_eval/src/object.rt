@@ -8,14 +8,13 @@ ghost use Rattle.module_eval.specs.Counted.{AreCounted, visit_of};
 ghost use Rattle.module_eval.specs.Walked.{Walked};
 
 use crate::counts::{Counts, count_leaf, enter};
+use crate::leaf::Leaf;
 use crate::node::Stop;
 use crate::part::Part;
-use module_table::Table;
 use omos_base::{PathName, Shared};
 use omos_model::Entry;
-use sqlite_items::Boxed;
 
-/// The object of a path as a leaf.
+/// The object of a path as a leaf, of which no table is made yet.
 #[inline(never)]
 pub fn visit_object<'a>(
     counted: bool,
@@ -37,7 +36,5 @@ pub fn visit_object<'a>(
     };
     let node = enter(counted, at, path, counts)?;
     let number = count_leaf(at, node, fragment, counts)?;
-    let alloc = counts.alloc();
-    let table = Table::leaf(alloc, number, entry.twin()?)?;
-    Ok(Part::Built(Boxed::new(alloc, table)?))
+    Ok(Part::Leaf(Leaf::of(number, entry.twin()?)))
 }

@@ -1,17 +1,20 @@
-//! What is known of a part of a term: its table, or why one of its operators is refused.
+//! What is known of a part of a term: its table, or why one of its operators is refused, or the
+//! leaf that it is.
 
-ghost use Rattle.std.specs.Prelude.{◌≡◌, IfOk, Option};
+ghost use Rattle.std.specs.Prelude.{◌≡◌, Err, IfOk, Option};
 ghost use Rattle.omos_model.specs.Expansion.{site_of};
 ghost use Rattle.omos_model.specs.Term.{Term, Merge, Override, Apply};
 ghost use Rattle.omos_model.specs.declared.refusal.Refusal.{Refusal as Cause};
 ghost use Rattle.omos_model.specs.declared.refusal.Site.{Site as Place};
 ghost use Rattle.module_table.specs.Stands.{Answers, refusal_at};
-ghost use Rattle.module_eval.specs.Meant.{AreBuilt, Means, MeansWhere};
+ghost use Rattle.module_eval.specs.Meant.{IsBuilt, Means, MeansWhere};
 ghost use Rattle.module_eval.specs.Operators.{op_of};
 ghost use Rattle.module_eval.specs.Walked.{term_with};
 
+use crate::leaf::Leaf;
 use crate::node::site;
 use crate::operator::{Operator, operate};
+use crate::table_box::TableBox;
 use module_table::{Table, TableFault};
 use omos_base::{Fault, NoMemory, PathName};
 use omos_model::{Refusal, Site};
@@ -23,9 +26,11 @@ use std::alloc::Global;
 #[derive(Drop)]
 pub enum Part {
     /// No operator is refused.
-    Built(Boxed<Table>),
+    Built(TableBox),
     /// The first refusal, in post-order, left to right.
     Failed(Boxed<Refusal>),
+    /// An object, of which a merge needs no table where it stands on the right.
+    Leaf(Leaf),
 }
 
 /// How two modules are put together.
@@ -47,8 +52,28 @@ fn refusal(site: Site, fault: TableFault) -> Refusal
     }
 }
 
-/// What the operator at a node of the blueprint `at` answered, as a part. It is inlined, and so is
-/// `tables`, so that tables aren't moved more often than they have to be.
+/// What is known of a module whose operator at a node of the blueprint `at` gave no table.
+fn failed(
+    alloc: Global,
+    at: &PathName,
+    node: u32,
+    fault: Fault<TableFault>,
+) -> Result<Part, NoMemory>
+    ensures { (t : Term) (refused : Option Cause)
+        → Answers (Err fault) (site_of at.now node) t refused
+        → IfOk result (λ part. MeansWhere part t refused) }
+{
+    match fault {
+        Fault::Refused(fault) => {
+            let refusal = refusal(site(at, node), fault);
+            Ok(Part::Failed(Boxed::new(alloc, refusal)?))
+        }
+        Fault::NoMemory => Err(NoMemory),
+    }
+}
+
+/// What the operator at a node of the blueprint `at` answered, as a part. It is inlined, so that
+/// tables aren't moved more often than they have to be.
 #[inline(always)]
 fn answered(
     alloc: Global,
@@ -60,26 +85,19 @@ fn answered(
         → IfOk result (λ part. MeansWhere part t refused) }
 {
     match answer {
-        Ok(table) => Ok(Part::Built(Boxed::new(alloc, table)?)),
-        Err(Fault::Refused(fault)) => {
-            let refusal = refusal(site(at, node), fault);
-            Ok(Part::Failed(Boxed::new(alloc, refusal)?))
-        }
-        Err(Fault::NoMemory) => Err(NoMemory),
+        Ok(table) => Ok(Part::Built(TableBox::new(alloc, table)?)),
+        Err(fault) => failed(alloc, at, node, fault),
     }
 }
 
-/// Both tables, or the refusal that comes first.
-#[inline(always)]
-fn tables(left: Part, right: Part) -> Result<(Table, Table), Boxed<Refusal>>
-    ensures { AreBuilt result left right }
+/// The table of a part, or its refusal.
+pub fn built(alloc: Global, part: Part) -> Result<Result<TableBox, Boxed<Refusal>>, NoMemory>
+    ensures { IfOk result (λ built. IsBuilt built part) }
 {
-    match left {
-        Part::Built(left) => match right {
-            Part::Built(right) => Ok((left.into_inner(), right.into_inner())),
-            Part::Failed(refusal) => Err(refusal),
-        },
-        Part::Failed(refusal) => Err(refusal),
+    match part {
+        Part::Built(table) => Ok(Ok(table)),
+        Part::Failed(refusal) => Ok(Err(refusal)),
+        Part::Leaf(leaf) => Ok(Ok(TableBox::new(alloc, leaf.table(alloc)?)?)),
     }
 }
 
@@ -95,9 +113,20 @@ pub fn merge(
     ensures { (l r : Term) → Means left l → Means right r
         → IfOk result (λ part. Means part (Merge (site_of at.now node) l r)) }
 {
-    match tables(left, right) {
-        Ok((left, right)) => answered(alloc, at, node, Table::merge(left, right)),
-        Err(refusal) => Ok(Part::Failed(refusal)),
+    let mut table = match built(alloc, left)? {
+        Ok(table) => table,
+        Err(refusal) => return Ok(Part::Failed(refusal)),
+    };
+    match right {
+        Part::Built(right) => {
+            let answer = Table::merge(table.into_inner(), right.into_inner());
+            answered(alloc, at, node, answer)
+        }
+        Part::Failed(refusal) => Ok(Part::Failed(refusal)),
+        Part::Leaf(leaf) => match table.merge_leaf(leaf) {
+            Ok(()) => Ok(Part::Built(table)),
+            Err(fault) => failed(alloc, at, node, fault),
+        },
     }
 }
 
@@ -106,13 +135,16 @@ fn override_by(alloc: Global, left: Part, right: Part) -> Result<Part, NoMemory>
     ensures { (s : Place) (l r : Term) → Means left l → Means right r
         → IfOk result (λ part. Means part (Override s l r)) }
 {
-    match tables(left, right) {
-        Ok((left, right)) => {
-            let table = Table::override_by(left, right)?;
-            Ok(Part::Built(Boxed::new(alloc, table)?))
-        }
-        Err(refusal) => Ok(Part::Failed(refusal)),
-    }
+    let left = match built(alloc, left)? {
+        Ok(table) => table,
+        Err(refusal) => return Ok(Part::Failed(refusal)),
+    };
+    let right = match built(alloc, right)? {
+        Ok(table) => table,
+        Err(refusal) => return Ok(Part::Failed(refusal)),
+    };
+    let table = Table::override_by(left.into_inner(), right.into_inner())?;
+    Ok(Part::Built(TableBox::new(alloc, table)?))
 }
 
 /// Both modules, joined so.
@@ -146,8 +178,8 @@ pub fn apply(
     ensures { (t : Term) → Means part t
         → IfOk result (λ p. Means p (Apply (site_of at.now node) (op_of operator.entry) t)) }
 {
-    match part {
-        Part::Built(table) => answered(alloc, at, node, operate(operator, table.into_inner())),
-        Part::Failed(refusal) => Ok(Part::Failed(refusal)),
+    match built(alloc, part)? {
+        Ok(table) => answered(alloc, at, node, operate(operator, table.into_inner())),
+        Err(refusal) => Ok(Part::Failed(refusal)),
     }
 }

@@ -7,7 +7,7 @@ ghost use Rattle.omos_model.specs.State.{state, states, in_rows};
 ghost use Rattle.omos_model.specs.Op.{Rename, Restrict, Freeze, Hide, Show, CopyAs};
 ghost use Rattle.module_table.specs.TableParts.{defined_in, AreNames};
 ghost use Rattle.module_table.specs.Stands.{StandsFor, IsObject, StandsForLeaf, StandsForOverride};
-ghost use Rattle.module_table.specs.Stands.{AnswersOp, AnswersMerge};
+ghost use Rattle.module_table.specs.Stands.{AnswersOp, AnswersMerge, AnswersMergeLeaf, in_place};
 
 use crate::fault::{self, TableFault};
 use crate::rules::{Bind, BindOutside, Reopen};
@@ -49,13 +49,8 @@ impl Table {
             unreachable!()
         };
         let exports = exports::of_leaf(alloc, fragment.exports(), number)?;
-        let marks = marks::of_leaf(alloc, fragment.fixups(), number)?;
         let mut rows = Vec::with_capacity(alloc, 1)?;
-        rows.push(MarkRow {
-            number,
-            entry,
-            marks,
-        })?;
+        rows.push(marks::row(alloc, number, entry)?)?;
         Ok(Table { exports, rows })
     }
 
@@ -112,6 +107,25 @@ impl Table {
         let exports = exports::unite(exports, more)?;
         rows.append(&mut more_rows)?;
         Ok(Table { exports, rows })
+    }
+
+    /// Puts an object's leaf behind the module, as `merge` does with the leaf's table, which isn't
+    /// made. Where it is refused, the table stands for nothing.
+    ///
+    /// It costs the object's names and references. The object is shared and not copied.
+    pub fn merge_leaf(&mut self, number: u32, entry: Shared<Entry>) -> Result<(), Fault<TableFault>>
+        requires { IsObject entry }
+        ensures { AnswersMergeLeaf (in_place result self.new) self.old number entry }
+    {
+        let Entry::Object(fragment) = entry.get() else {
+            unreachable!()
+        };
+        if let Some(name) = exports::put_leaf(&mut self.exports, fragment.exports(), number)? {
+            return Err(fault::conflict(name));
+        }
+        let alloc = *self.rows.allocator();
+        self.rows.push(marks::row(alloc, number, entry)?)?;
+        Ok(())
     }
 
     /// Puts two modules together: where both define a name, the right's definition stays. All

@@ -15,5 +15,5 @@ returns-clause-walk c f is =
     let counted = subst (λ (g : FragmentParts). leaf g s (visit_of c.enter.new.counts) ≡ Ok (Leaf s number g, visit_of c.count_leaf.new.counts)) fragment c.in_ok-number.ensures.walk in (
       Leaf s number f,
       rw (c.in_ok-node.ensures.walk, counted) refl,
-      (rw c.in_ok-new.ensures (c.in_ok-table.ensures s f (c.in_ok-twin.ensures ∙ is)), refl),
+      rw c.of.ensures ((s, f, c.in_ok-twin.ensures ∙ is, refl), refl),
     )
