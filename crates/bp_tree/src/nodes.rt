@@ -126,6 +126,7 @@ fn overridden<'a>(
 }
 
 /// Appends the path that a word is. Most operands are paths: none of them is handed up.
+#[inline(always)]
 #[tactic(auto, using(crate::proofs::Forms::no_path))]
 fn push_path(operands: &mut Items<Expr>, word: &[u8], place: u32) -> Result<(), Fault<Stop>>
     ensures { MatchFault result (λ _. IsPath word.now
@@ -164,6 +165,7 @@ fn push_expr<'a>(
 
 /// Appends the expression that begins with the next token.
 #[cycle(expression)]
+#[inline(always)]
 fn push_next<'a>(
     alloc: Global,
     operands: &mut Items<Expr>,
