@@ -3,11 +3,11 @@
 
 ghost use Rattle.std.specs.Prelude.{◌≡◌, ◌≤◌, ◌∷◌, [], map, ◌++◌, All};
 ghost use Rattle.omos_base.specs.Fault.{MatchFault};
-ghost use Rattle.omos_base.specs.Paths.{IsPath};
+ghost use Rattle.omos_base.specs.Paths.{IsPath, HasPathFault};
 ghost use Rattle.omos_base.specs.SymNames.{IsSymName};
 ghost use Rattle.bp_tree.specs.Tokens as token;
 ghost use Rattle.bp_tree.specs.Grammar.{IsExpr, IsOpened};
-ghost use Rattle.bp_tree.specs.Pending.{pending, IsNext};
+ghost use Rattle.bp_tree.specs.Pending.{pending};
 ghost use Rattle.bp_tree.specs.Symbols.{It, AName, Names, AnExpr, Inside, Exprs, AreRead, Fails};
 ghost use Rattle.bp_tree.specs.Symbols.{IsOperator, arguments, behind, keyword, kind_nesting};
 ghost use Rattle.bp_tree.specs.Symbols.{AreOperands, HasOneMore};
@@ -16,8 +16,8 @@ use crate::form::{Applied, Form};
 use crate::leaves::{close, name, names, open};
 use crate::operator::Operator;
 use crate::stop::Stop;
-use crate::token::{Next, Reader, Token};
-use omos_base::{Fault, PathName, SymName};
+use crate::token::{Reader, Token};
+use omos_base::{Fault, PathFault, PathName, SymName};
 use omos_model::{BpFault, Expr};
 use sqlite_items::{Boxed, Items};
 use std::alloc::Global;
@@ -125,20 +125,18 @@ fn overridden<'a>(
     Ok((Expr::Override(first, second), after))
 }
 
-/// Appends the path that a word is. Most operands are paths: none of them is handed up.
+/// Appends the path that a word is. Most operands are paths, and none of them is handed up.
 #[inline(always)]
-#[tactic(auto, using(crate::proofs::Forms::no_path))]
-fn push_path(operands: &mut Items<Expr>, word: &[u8], place: u32) -> Result<(), Fault<Stop>>
+fn push_path(operands: &mut Items<Expr>, word: &[u8]) -> Result<(), Fault<PathFault>>
     ensures { MatchFault result (λ _. IsPath word.now
-        × (operands.new ≡ operands.old ++ Expr.Path word.now ∷ []))
-        (λ stop. (stop ≡ Stop.At (BpFault.Shape place)) × ¬ IsPath word.now) }
+        × (operands.new ≡ operands.old ++ Expr.Path word.now ∷ [])) (HasPathFault word.now) }
 {
     match PathName::read(word) {
         Ok(path) => match operands.push(Expr::Path(path)) {
             Ok(()) => Ok(()),
             Err(_) => Err(Fault::NoMemory),
         },
-        Err(_) => Err(Fault::Refused(Stop::At(BpFault::Shape(place)))),
+        Err(fault) => Err(Fault::Refused(fault)),
     }
 }
 
@@ -163,29 +161,6 @@ fn push_expr<'a>(
     }
 }
 
-/// Appends the expression that begins with the next token.
-#[cycle(expression)]
-#[inline(always)]
-fn push_next<'a>(
-    alloc: Global,
-    operands: &mut Items<Expr>,
-    from: Reader<'a>,
-    next: Next<'a>,
-    room: u32,
-) -> Result<Reader<'a>, Fault<Stop>>
-    requires { IsNext (pending from) next }
-    ensures { MatchFault result (λ after. HasOneMore room operands.old operands.new
-        (pending from.entry) (pending after)) (Fails (AnExpr room ∷ []) (pending from.entry)) }
-{
-    match next.token {
-        Token::Word(word) => match push_path(operands, word, next.place) {
-            Ok(()) => Ok(next.after),
-            Err(fault) => Err(fault),
-        },
-        _ => push_expr(alloc, operands, from, room),
-    }
-}
-
 /// Appends one operand.
 #[cycle(expression)]
 fn push_one<'a>(
@@ -199,7 +174,16 @@ fn push_one<'a>(
 {
     match from.next() {
         None => Err(Fault::Refused(Stop::Early)),
-        Some(next) => push_next(alloc, operands, from, next, room),
+        Some(next) => match next.token {
+            Token::Word(word) => match push_path(operands, word) {
+                Ok(()) => Ok(next.after),
+                Err(Fault::Refused(_)) => {
+                    Err(Fault::Refused(Stop::At(BpFault::Shape(next.place))))
+                }
+                Err(Fault::NoMemory) => Err(Fault::NoMemory),
+            },
+            _ => push_expr(alloc, operands, from, room),
+        },
     }
 }
 
@@ -221,7 +205,14 @@ fn operands<'a>(
             None => return Err(Fault::Refused(Stop::Early)),
             Some(next) => match next.token {
                 Token::Close => return Ok((operands, next.after)),
-                _ => match push_next(alloc, &mut operands, rest, next, room) {
+                Token::Word(word) => match push_path(&mut operands, word) {
+                    Ok(()) => rest = next.after,
+                    Err(Fault::Refused(_)) => {
+                        return Err(Fault::Refused(Stop::At(BpFault::Shape(next.place))));
+                    }
+                    Err(Fault::NoMemory) => return Err(Fault::NoMemory),
+                },
+                _ => match push_expr(alloc, &mut operands, rest, room) {
                     Ok(after) => rest = after,
                     Err(fault) => return Err(fault),
                 },

@@ -8,7 +8,6 @@ ghost use Rattle.bp_tree.specs.Tokens as spec;
 ghost use Rattle.bp_tree.specs.Pending.{pending, AtToken, IsNext};
 
 use crate::token::{Next, Reader, Token};
-use omos_base::is_name_byte;
 
 /// Whether the byte separates tokens.
 fn is_blank(byte: u8) -> bool
@@ -17,13 +16,20 @@ fn is_blank(byte: u8) -> bool
     byte == b' ' || byte == b'\t' || byte == b'\n' || byte == b'\r'
 }
 
+/// Whether a word may have the byte, by what it may not be: most of that is one test of bits.
+fn is_word_byte(byte: u8) -> bool
+    ensures { result ≡ is_name_byte byte }
+{
+    !(byte <= b' ' || byte == b'"' || byte == b'(' || byte == b')' || byte == b';' || byte == 0x7f)
+}
+
 /// Whether the bytes begin with a word.
 fn starts_word(bytes: &[u8]) -> bool
     ensures { result ≡ begins_word bytes.now }
 {
     match bytes {
         [] => false,
-        [byte, ..] => is_name_byte(*byte),
+        [byte, ..] => is_word_byte(*byte),
     }
 }
 
@@ -34,7 +40,7 @@ fn word_size(bytes: &[u8]) -> usize
     ensures longest { begins_word (drop result bytes.now) ≡ false }
 {
     for (size, byte) in bytes.iter().enumerate() {
-        if !is_name_byte(*byte) {
+        if !is_word_byte(*byte) {
             return size;
         }
     }

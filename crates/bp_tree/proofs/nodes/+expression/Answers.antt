@@ -5,7 +5,7 @@ use Rattle.bp_tree.specs.Pending.{pending, placed, seen}
 use Rattle.bp_tree.specs.Symbols.{It, AnExpr, Exprs, Fails, arguments, keyword, kind_nesting, form_nesting}
 use Rattle.bp_tree.specs.declared.form.Form.TheVariants as form
 use Rattle.bp_tree.proofs.Arms.{err_arm, fault_onward, onward}
-use Rattle.bp_tree.proofs.Sights.{seen_open, seen_close, seen_word, word_is, not_open}
+use Rattle.bp_tree.proofs.Sights.{seen_open, seen_close, seen_word, word_is, not_open, not_close}
 use Rattle.bp_tree.proofs.Sequences.{fails_first, then_fails}
 use Rattle.bp_tree.proofs.Solids.{solid_it, solid_exprs, solid_end, solid_more}
 use Rattle.bp_tree.proofs.Expressions.{expr_early, expr_shape, expr_deep, path_read, opened_read, opened_fails, inside_early, inside_shape, form_read, form_fails, same_form}
@@ -125,19 +125,20 @@ merged-returns t c =
 
 -- ---- one more operand
 
-pub push_next-returns-in-Ok : goal.push_next-returns-in-Ok
-push_next-returns-in-Ok t c =
-    path_more c.args.room c.args.operands.now c.push_path.new.operands c.in-Word.word.now (pending c.args.from) (placed c.args.next)
-    (pending c.args.next.after) c.requires (ap seen c.in-Word.is) c.in-Ok.ensures.0 c.in-Ok.ensures.1
-
-pub push_next-returns-in-Err : goal.push_next-returns-in-Err
-push_next-returns-in-Err t c =
-    fault_onward _ c.in-Err.fault _ _ (Fails (AnExpr c.args.room ∷ []) (pending c.args.from)) c.in-Err.ensures
-    (λ stop f. word_fails c.args.room c.in-Word.word.now (pending c.args.from) (placed c.args.next) (pending c.args.next.after) stop
-    c.requires (ap seen c.in-Word.is) f.0 f.1)
-
 pub push_one-returns-in-None : goal.push_one-returns-in-None
 push_one-returns-in-None t c = expr_early c.args.room (pending c.args.from) c.in-None.ensures
+
+pub push_one-returns-in-Ok : goal.push_one-returns-in-Ok
+push_one-returns-in-Ok t c =
+    let n = c.in-Some.next in
+    path_more c.args.room c.args.operands.now c.push_path.new.operands c.in-Word.word.now (pending c.args.from) (placed n)
+    (pending n.after) c.in-Some.ensures (ap seen c.in-Word.is) c.in-Ok.ensures.0 c.in-Ok.ensures.1
+
+pub push_one-returns-in-Err-Refused : goal.push_one-returns-in-Err-Refused
+push_one-returns-in-Err-Refused t c =
+    let n = c.in-Some.next in
+    word_fails c.args.room c.in-Word.word.now c.in-Err-Refused.field-0-0 (pending c.args.from) (placed n) (pending n.after)
+    c.in-Some.ensures (ap seen c.in-Word.is) (rw c.in-Err-Refused.field-0-is at c.in-Err-Refused.ensures)
 
 -- ---- operands
 
@@ -151,6 +152,14 @@ operands-returns-in-Close t c =
     operands_done c.args.room c.args.given c.operands.operands (pending c.args.from) (pending c.operands.rest)
     (pending c.in-Some.next.after) (placed c.in-Some.next) c.operands.invariant c.in-Some.ensures (ap seen c.in-Close.is)
 
+pub operands-returns-in-Err-Refused : goal.operands-returns-in-Err-Refused
+operands-returns-in-Err-Refused t c =
+    let n = c.in-Some.next in
+    operand_fails c.args.room c.args.given c.operands.operands (pending c.args.from) (pending c.operands.rest)
+    (placed n) (pending n.after) _ c.operands.invariant c.in-Some.ensures (not_close n.token c.in-Word.word c.in-Word.is)
+    (word_fails c.args.room c.in-Word.word.now c.in-Err-Refused.field-0-0 (pending c.operands.rest) (placed n) (pending n.after)
+    c.in-Some.ensures (ap seen c.in-Word.is) (rw c.in-Err-Refused.field-0-is at c.in-Err-Refused.ensures))
+
 pub operands-returns-in-Err : goal.operands-returns-in-Err
 operands-returns-in-Err t c =
     fault_onward _ c.in-Err.fault _ _ (Fails (Exprs c.args.room ∷ []) (pending c.args.from)) c.in-Err.ensures
@@ -158,17 +167,26 @@ operands-returns-in-Err t c =
     (placed c.in-Some.next) (pending c.in-Some.next.after) stop c.operands.invariant c.in-Some.ensures
     (λ h. seen_close c.in-Some.next.token h c.in_default.not-Close) f)
 
+pub operands-operands-preserved-in-Ok : goal.operands-operands-preserved-in-Ok
+operands-operands-preserved-in-Ok t c =
+    let n = c.in-Some.next in
+    let x = path_more c.args.room c.operands.operands c.push_path.new.operands c.in-Word.word.now (pending c.operands.rest) (placed n)
+    (pending n.after) c.in-Some.ensures (ap seen c.in-Word.is) c.in-Ok.ensures.0 c.in-Ok.ensures.1 in
+    operand_more c.args.room c.args.given c.operands.operands c.push_path.new.operands x.0 (pending c.args.from) (pending c.operands.rest)
+    (placed n) (pending n.after) (pending n.after) c.operands.invariant c.in-Some.ensures
+    (not_close n.token c.in-Word.word c.in-Word.is) x.2 x.1
+
 pub operands-operands-preserved : goal.operands-operands-preserved
 operands-operands-preserved t c =
-    let x = c.in-Ok.ensures in
-    operand_more c.args.room c.args.given c.operands.operands c.push_next.new.operands x.0 (pending c.args.from) (pending c.operands.rest)
-    (placed c.in-Some.next) (pending c.in-Some.next.after) (pending c.in-Ok.after) c.operands.invariant c.in-Some.ensures
+    let x = c.in-Ok-push_expr.ensures in
+    operand_more c.args.room c.args.given c.operands.operands c.push_expr.new.operands x.0 (pending c.args.from) (pending c.operands.rest)
+    (placed c.in-Some.next) (pending c.in-Some.next.after) (pending c.in-Ok-push_expr.after) c.operands.invariant c.in-Some.ensures
     (λ h. seen_close c.in-Some.next.token h c.in_default.not-Close) x.2 x.1
 
 pub operands-operands-smaller : goal.operands-operands-smaller
 operands-operands-smaller t c =
-    let x = c.in-Ok.ensures in
-    shorter c.args.room x.0 (pending c.operands.rest) (pending c.in-Ok.after) x.2
+    let x = c.in-Ok-push_expr.ensures in
+    shorter c.args.room x.0 (pending c.operands.rest) (pending c.in-Ok-push_expr.after) x.2
 
 -- ---- inside
 

@@ -25,11 +25,8 @@ decreases-overridden l = 8 * l.room + 4
 abbrev pub decreases-push_expr : goal.decreases-push_expr
 decreases-push_expr l = 8 * l.room + 1
 
-abbrev pub decreases-push_next : goal.decreases-push_next
-decreases-push_next l = 8 * l.room + 2
-
 abbrev pub decreases-push_one : goal.decreases-push_one
-decreases-push_one l = 8 * l.room + 3
+decreases-push_one l = 8 * l.room + 2
 
 abbrev pub invariant-operands-operands : goal.invariant-operands-operands
 invariant-operands-operands l =
