@@ -1,8 +1,7 @@
 -- Operands of a merge, up to the parenthesis.
 use Rattle.std.proofs.Common.{◌≡◌, ℕ, ◌+◌, List, [], ◌∷◌, ◌++◌, refl, sym, ap, subst, ◌∙◌, append_assoc}
 use Rattle.std.proofs.lemmas.List.{append-nil}
-use Rattle.omos_base.specs.Paths.{IsPath, HasPathFault}
-use Rattle.omos_base.specs.declared.path_name.PathFault.{PathFault}
+use Rattle.omos_base.specs.Paths.{IsPath}
 use Rattle.omos_model.specs.declared.expr.Expr.{Expr}
 use Rattle.omos_model.specs.declared.expr.Expr.TheVariants as expr
 use Rattle.omos_model.specs.declared.refusal.BpFault.TheVariants.{Shape}
@@ -14,7 +13,6 @@ use Rattle.bp_tree.specs.declared.stop.Stop.{Stop}
 use Rattle.bp_tree.specs.declared.stop.Stop.TheVariants.{Early, At}
 use Rattle.bp_tree.proofs.Failing.{IsNeverEmpty, fails_early, leads_step}
 use Rattle.bp_tree.proofs.Expressions.{expr_first, expr_nil, expr_shape, path_read}
-use Rattle.bp_tree.proofs.Forms.{no_path}
 use Rattle.bp_tree.proofs.NameLists.{nothing_yet, fails_on, ends, words-append}
 use Rattle.bp_tree.proofs.Sequences.{DiffersAtClose, unless_closed}
 use Rattle.bp_tree.proofs.Solids.{solid_exprs}
@@ -149,11 +147,11 @@ pub path_more : (room : ℕ) (given all : List Expr) (w : List ℕ) (ts : List P
     → HasOneMore room given all ts after
 path_more room given all w ts t after e same is grown = (expr.Path w, grown, path_read room w ts t after e same is)
 
-pub word_fails : (room : ℕ) (w : List ℕ) (fault : PathFault) (ts : List Placed) (t : Placed) (after : List Placed)
-    → ts ≡ t ∷ after → t.token ≡ Word w → HasPathFault w fault → Fails (AnExpr room ∷ []) ts (At (Shape t.place))
-word_fails room w fault ts t after e same wrong =
+pub word_fails : (room : ℕ) (w : List ℕ) (ts : List Placed) (t : Placed) (after : List Placed) → ts ≡ t ∷ after
+    → t.token ≡ Word w → (IsPath w → ⊥) → Fails (AnExpr room ∷ []) ts (At (Shape t.place))
+word_fails room w ts t after e same none =
     expr_shape room ts t after e
     (λ p h is.
     let k : Word p ≡ Word w = sym h ∙ same in
-    let n : p ≡ w = cc in no_path w fault wrong (subst IsPath n is))
+    let n : p ≡ w = cc in none (subst IsPath n is))
     (λ h. let k : Open ≡ Word w = sym h ∙ same in cc)

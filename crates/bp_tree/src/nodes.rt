@@ -3,7 +3,7 @@
 
 ghost use Rattle.std.specs.Prelude.{◌≡◌, ◌≤◌, ◌∷◌, [], map, ◌++◌, All};
 ghost use Rattle.omos_base.specs.Fault.{MatchFault};
-ghost use Rattle.omos_base.specs.Paths.{IsPath, HasPathFault};
+ghost use Rattle.omos_base.specs.Paths.{IsPath};
 ghost use Rattle.omos_base.specs.SymNames.{IsSymName};
 ghost use Rattle.bp_tree.specs.Tokens as token;
 ghost use Rattle.bp_tree.specs.Grammar.{IsExpr, IsOpened};
@@ -17,7 +17,7 @@ use crate::leaves::{close, name, names, open};
 use crate::operator::Operator;
 use crate::stop::Stop;
 use crate::token::{Reader, Token};
-use omos_base::{Fault, PathFault, PathName, SymName};
+use omos_base::{Fault, PathName, SymName};
 use omos_model::{BpFault, Expr};
 use sqlite_items::{Boxed, Items};
 use std::alloc::Global;
@@ -125,18 +125,20 @@ fn overridden<'a>(
     Ok((Expr::Override(first, second), after))
 }
 
-/// Appends the path that a word is. Most operands are paths, and none of them is handed up.
+/// Appends the path that a word is. Most operands are paths, and none of them is handed up. Why
+/// a word is none isn't handed up either: that would zero the room of a path at each call.
 #[inline(always)]
-fn push_path(operands: &mut Items<Expr>, word: &[u8]) -> Result<(), Fault<PathFault>>
+#[tactic(auto, using(crate::proofs::Forms::no_path))]
+fn push_path(operands: &mut Items<Expr>, word: &[u8]) -> Result<(), Fault<()>>
     ensures { MatchFault result (λ _. IsPath word.now
-        × (operands.new ≡ operands.old ++ Expr.Path word.now ∷ [])) (HasPathFault word.now) }
+        × (operands.new ≡ operands.old ++ Expr.Path word.now ∷ [])) (λ _. ¬ IsPath word.now) }
 {
     match PathName::read(word) {
         Ok(path) => match operands.push(Expr::Path(path)) {
             Ok(()) => Ok(()),
             Err(_) => Err(Fault::NoMemory),
         },
-        Err(fault) => Err(Fault::Refused(fault)),
+        Err(_) => Err(Fault::Refused(())),
     }
 }
 

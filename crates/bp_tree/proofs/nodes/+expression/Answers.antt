@@ -137,7 +137,7 @@ push_one-returns-in-Ok t c =
 pub push_one-returns-in-Err-Refused : goal.push_one-returns-in-Err-Refused
 push_one-returns-in-Err-Refused t c =
     let n = c.in-Some.next in
-    word_fails c.args.room c.in-Word.word.now c.in-Err-Refused.field-0-0 (pending c.args.from) (placed n) (pending n.after)
+    word_fails c.args.room c.in-Word.word.now (pending c.args.from) (placed n) (pending n.after)
     c.in-Some.ensures (ap seen c.in-Word.is) (rw c.in-Err-Refused.field-0-is at c.in-Err-Refused.ensures)
 
 -- ---- operands
@@ -157,7 +157,7 @@ operands-returns-in-Err-Refused t c =
     let n = c.in-Some.next in
     operand_fails c.args.room c.args.given c.operands.operands (pending c.args.from) (pending c.operands.rest)
     (placed n) (pending n.after) _ c.operands.invariant c.in-Some.ensures (not_close n.token c.in-Word.word c.in-Word.is)
-    (word_fails c.args.room c.in-Word.word.now c.in-Err-Refused.field-0-0 (pending c.operands.rest) (placed n) (pending n.after)
+    (word_fails c.args.room c.in-Word.word.now (pending c.operands.rest) (placed n) (pending n.after)
     c.in-Some.ensures (ap seen c.in-Word.is) (rw c.in-Err-Refused.field-0-is at c.in-Err-Refused.ensures))
 
 pub operands-returns-in-Err : goal.operands-returns-in-Err
