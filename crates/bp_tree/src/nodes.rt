@@ -125,9 +125,9 @@ fn overridden<'a>(
     Ok((Expr::Override(first, second), after))
 }
 
-/// Appends the path that a word is. Most operands are paths, and none of them is handed up. Why
-/// a word is none isn't handed up either: that would zero the room of a path at each call.
-#[inline(always)]
+/// Appends the path that a word is. Most operands are paths: none of them is handed up, nor is why
+/// a word is no path. It isn't inlined, since the loop would set the room of a path to zero each time.
+#[inline(never)]
 #[tactic(auto, using(crate::proofs::Forms::no_path))]
 fn push_path(operands: &mut Items<Expr>, word: &[u8]) -> Result<(), Fault<()>>
     ensures { MatchFault result (λ _. IsPath word.now
