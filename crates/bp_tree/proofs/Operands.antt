@@ -1,15 +1,18 @@
 -- Operands of a merge, up to the parenthesis.
 use Rattle.std.proofs.Common.{◌≡◌, ℕ, ◌+◌, List, [], ◌∷◌, ◌++◌, refl, sym, ap, subst, ◌∙◌, append_assoc}
 use Rattle.std.proofs.lemmas.List.{append-nil}
+use Rattle.omos_base.specs.Paths.{IsPath}
 use Rattle.omos_model.specs.declared.expr.Expr.{Expr}
+use Rattle.omos_model.specs.declared.expr.Expr.TheVariants as expr
+use Rattle.omos_model.specs.declared.refusal.BpFault.TheVariants.{Shape}
 use Rattle.bp_tree.specs.Tokens.{Token, Open, Close, Word, Placed}
 use Rattle.bp_tree.specs.Texts.{words_of}
 use Rattle.bp_tree.specs.Grammar.{IsExpr, AreExprs}
-use Rattle.bp_tree.specs.Symbols.{Sym, AnExpr, Exprs, AreSyms, Fails, AreRead, HasGrown, WhyStops, AreOperands}
+use Rattle.bp_tree.specs.Symbols.{Sym, AnExpr, Exprs, AreSyms, Fails, AreRead, HasGrown, WhyStops, AreOperands, HasOneMore}
 use Rattle.bp_tree.specs.declared.stop.Stop.{Stop}
-use Rattle.bp_tree.specs.declared.stop.Stop.TheVariants.{Early}
+use Rattle.bp_tree.specs.declared.stop.Stop.TheVariants.{Early, At}
 use Rattle.bp_tree.proofs.Failing.{IsNeverEmpty, fails_early, leads_step}
-use Rattle.bp_tree.proofs.Expressions.{expr_first, expr_nil}
+use Rattle.bp_tree.proofs.Expressions.{expr_first, expr_nil, expr_shape, path_read}
 use Rattle.bp_tree.proofs.NameLists.{nothing_yet, fails_on, ends, words-append}
 use Rattle.bp_tree.proofs.Sequences.{DiffersAtClose, unless_closed}
 use Rattle.bp_tree.proofs.Solids.{solid_exprs}
@@ -136,3 +139,19 @@ operands_done room given all ts now after t g e same =
     ends (Exprs room) (Grouped room given all) (AreOperands room given all) ts now after t g e
     (λ ws v. (ws, v.0, ap (λ u. ws ++ u ∷ []) same, v.1, v.2))
     (exprs_end room now t after e same)
+
+-- ---- an operand that is a path, or another word
+
+pub path_more : (room : ℕ) (given all : List Expr) (w : List ℕ) (ts : List Placed) (t : Placed) (after : List Placed)
+    → ts ≡ t ∷ after → t.token ≡ Word w → IsPath w → all ≡ given ++ expr.Path w ∷ []
+    → HasOneMore room given all ts after
+path_more room given all w ts t after e same is grown = (expr.Path w, grown, path_read room w ts t after e same is)
+
+pub word_fails : (room : ℕ) (w : List ℕ) (ts : List Placed) (t : Placed) (after : List Placed) → ts ≡ t ∷ after
+    → t.token ≡ Word w → (IsPath w → ⊥) → Fails (AnExpr room ∷ []) ts (At (Shape t.place))
+word_fails room w ts t after e same none =
+    expr_shape room ts t after e
+    (λ p h is.
+    let k : Word p ≡ Word w = sym h ∙ same in
+    let n : p ≡ w = cc in none (subst IsPath n is))
+    (λ h. let k : Open ≡ Word w = sym h ∙ same in cc)

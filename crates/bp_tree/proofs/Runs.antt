@@ -1,9 +1,10 @@
 -- A word is a longest run of bytes that a name may have.
-use Rattle.std.proofs.Common.{◌≡◌, ℕ, ◌+◌, ◌≤◌, ◌==◌, Bool, true, false, IsTrue, List, [], ◌∷◌, ◌++◌}
+use Rattle.std.proofs.Common.{◌≡◌, ℕ, zero, suc, ◌+◌, ◌≤◌, ◌==◌, Bool, true, false, IsTrue, List, [], ◌∷◌, ◌++◌}
 use Rattle.std.proofs.Common.{length, refl, arith, ◌&&◌, ap, sym, subst, ◌∙◌, cond, take, drop}
 use Rattle.std.proofs.lemmas.List.{take-append-drop, length-take-le}
 use Rattle.std.specs.List.{list_all}
 use Rattle.omos_model.specs.Names.{is_name_byte}
+use Rattle.bp_tree.specs.Pending.{IsFirstWord}
 use Rattle.bp_tree.specs.Tokens.{Word, Placed, tokens_from, begins_word, is_blank, in_front, mark}
 
 pub no_comment : (b : ℕ) → is_name_byte b ≡ true → (b == 59) ≡ false
@@ -78,3 +79,17 @@ word_at bytes place size begins within all ends =
     ∙ split_word (take size bytes) (drop size bytes) place (subst P (sym whole) begins) all ends
     ∙ ap (λ n. record { token = Word (take size bytes); place = place }
     ∷ tokens_from false (place + n) (drop size bytes)) long
+
+-- a run of bytes is a word, where it isn't empty
+pub first_word : (bytes : List ℕ) (size : ℕ) → (size ≡ 0 → ⊥) → size ≤ length bytes
+    → IsTrue (list_all is_name_byte (take size bytes)) → begins_word (drop size bytes) ≡ false
+    → IsFirstWord size bytes
+first_word bytes zero some within all ends = absurd (some refl)
+first_word [] (suc n) some within all ends = absurd (omega arith)
+first_word (b ∷ bs) (suc n) some within all ends =
+    record { begins = first_named b (take n bs) all; within = within; word = all; longest = ends }
+
+pub no_word : (bytes : List ℕ) (size : ℕ) → size ≡ 0 → begins_word (drop size bytes) ≡ false
+    → begins_word bytes ≡ false
+no_word bytes zero none ends = ends
+no_word bytes (suc n) none ends = absurd (omega arith)

@@ -1,6 +1,8 @@
 -- What a reader has before it.
-use Rattle.std.specs.Prelude.{◌≡◌, ℕ, List, [], ◌∷◌, false, ◌==◌}
-use Rattle.bp_tree.specs.Tokens.{Token, Open, Close, Word, Barred, Placed, tokens_from, is_blank}
+use Rattle.std.specs.Prelude.{◌≡◌, ◌≤◌, ℕ, List, [], ◌∷◌, true, false, ◌==◌, take, drop, length, IsTrue}
+use Rattle.std.specs.List.{list_all}
+use Rattle.omos_model.specs.Names.{is_name_byte}
+use Rattle.bp_tree.specs.Tokens.{Token, Open, Close, Word, Barred, Placed, tokens_from, begins_word, is_blank}
 use Rattle.bp_tree.specs.declared.token.Reader.{Reader}
 use Rattle.bp_tree.specs.declared.token.Next.{Next}
 use Rattle.bp_tree.specs.declared.token.Token as kind
@@ -26,3 +28,10 @@ placed n = record { token = seen n.token; place = n.place }
 -- the first of these tokens, before those that are pending after it
 abbrev pub IsNext : List Placed → Next → Type 0
 IsNext ts n = ts ≡ placed n ∷ pending n.after
+
+-- a word of so many bytes comes first
+pub record IsFirstWord (size : ℕ) (bytes : List ℕ) : Type 0 where
+  pub begins : begins_word bytes ≡ true
+  pub within : size ≤ length bytes
+  pub word : IsTrue (list_all is_name_byte (take size bytes))
+  pub longest : begins_word (drop size bytes) ≡ false

@@ -161,3 +161,8 @@ pub record HasGrown (now : Sym) (V : List Token → Type 0) (ts after : List Pla
   pub value : V (words_of front)
   pub leads : (ss : List Sym) (stop : Stop) → WhyStops (AreSyms (now ∷ ss)) after stop
       → WhyStops (AreSyms (now ∷ ss)) ts stop
+
+-- one expression was read, and stands behind those that are given
+abbrev pub HasOneMore : ℕ → List Expr → List Expr → List Placed → List Placed → Type 0
+HasOneMore room given all ts after =
+    (x : Expr) × (all ≡ given ++ x ∷ []) × AreRead (AnExpr room ∷ []) (λ ws. IsExpr room ws x) ts after

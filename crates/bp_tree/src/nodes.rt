@@ -1,22 +1,23 @@
 //! Reading of expressions, by recursive descent. A merge's operands are a loop, so the descent is
 //! as deep as parentheses may nest.
 
-ghost use Rattle.std.specs.Prelude.{◌≡◌, ◌≤◌, ◌∷◌, [], map, ◌++◌, All, IfOk};
+ghost use Rattle.std.specs.Prelude.{◌≡◌, ◌≤◌, ◌∷◌, [], map, ◌++◌, All};
 ghost use Rattle.omos_base.specs.Fault.{MatchFault};
+ghost use Rattle.omos_base.specs.Paths.{IsPath};
 ghost use Rattle.omos_base.specs.SymNames.{IsSymName};
 ghost use Rattle.bp_tree.specs.Tokens as token;
 ghost use Rattle.bp_tree.specs.Grammar.{IsExpr, IsOpened};
 ghost use Rattle.bp_tree.specs.Pending.{pending};
 ghost use Rattle.bp_tree.specs.Symbols.{It, AName, Names, AnExpr, Inside, Exprs, AreRead, Fails};
 ghost use Rattle.bp_tree.specs.Symbols.{IsOperator, arguments, behind, keyword, kind_nesting};
-ghost use Rattle.bp_tree.specs.Symbols.{AreOperands};
+ghost use Rattle.bp_tree.specs.Symbols.{AreOperands, HasOneMore};
 
 use crate::form::{Applied, Form};
 use crate::leaves::{close, name, names, open};
 use crate::operator::Operator;
 use crate::stop::Stop;
 use crate::token::{Reader, Token};
-use omos_base::{Fault, NoMemory, PathName, SymName};
+use omos_base::{Fault, PathName, SymName};
 use omos_model::{BpFault, Expr};
 use sqlite_items::{Boxed, Items};
 use std::alloc::Global;
@@ -124,6 +125,70 @@ fn overridden<'a>(
     Ok((Expr::Override(first, second), after))
 }
 
+/// Appends the path that a word is. Most operands are paths: none of them is handed up, nor is why
+/// a word is no path. It isn't inlined, since the loop would set the room of a path to zero each time.
+#[inline(never)]
+#[tactic(auto, using(crate::proofs::Forms::no_path))]
+fn push_path(operands: &mut Items<Expr>, word: &[u8]) -> Result<(), Fault<()>>
+    ensures { MatchFault result (λ _. IsPath word.now
+        × (operands.new ≡ operands.old ++ Expr.Path word.now ∷ [])) (λ _. ¬ IsPath word.now) }
+{
+    match PathName::read(word) {
+        Ok(path) => match operands.push(Expr::Path(path)) {
+            Ok(()) => Ok(()),
+            Err(_) => Err(Fault::NoMemory),
+        },
+        Err(_) => Err(Fault::Refused(())),
+    }
+}
+
+/// Appends the expression that comes next.
+#[cycle(expression)]
+#[inline(never)]
+fn push_expr<'a>(
+    alloc: Global,
+    operands: &mut Items<Expr>,
+    from: Reader<'a>,
+    room: u32,
+) -> Result<Reader<'a>, Fault<Stop>>
+    ensures { MatchFault result (λ after. HasOneMore room operands.old operands.new
+        (pending from.entry) (pending after)) (Fails (AnExpr room ∷ []) (pending from.entry)) }
+{
+    match expr(alloc, from, room) {
+        Ok((operand, after)) => match operands.push(operand) {
+            Ok(()) => Ok(after),
+            Err(_) => Err(Fault::NoMemory),
+        },
+        Err(fault) => Err(fault),
+    }
+}
+
+/// Appends one operand.
+#[cycle(expression)]
+fn push_one<'a>(
+    alloc: Global,
+    operands: &mut Items<Expr>,
+    from: Reader<'a>,
+    room: u32,
+) -> Result<Reader<'a>, Fault<Stop>>
+    ensures { MatchFault result (λ after. HasOneMore room operands.old operands.new
+        (pending from.entry) (pending after)) (Fails (AnExpr room ∷ []) (pending from.entry)) }
+{
+    match from.next() {
+        None => Err(Fault::Refused(Stop::Early)),
+        Some(next) => match next.token {
+            Token::Word(word) => match push_path(operands, word) {
+                Ok(()) => Ok(next.after),
+                Err(Fault::Refused(_)) => {
+                    Err(Fault::Refused(Stop::At(BpFault::Shape(next.place))))
+                }
+                Err(Fault::NoMemory) => Err(Fault::NoMemory),
+            },
+            _ => push_expr(alloc, operands, from, room),
+        },
+    }
+}
+
 /// Further operands of a merge, behind those that are given.
 #[cycle(expression)]
 fn operands<'a>(
@@ -142,24 +207,20 @@ fn operands<'a>(
             None => return Err(Fault::Refused(Stop::Early)),
             Some(next) => match next.token {
                 Token::Close => return Ok((operands, next.after)),
-                _ => {
-                    let (operand, after) = expr(alloc, rest, room)?;
-                    operands.push(operand)?;
-                    rest = after;
-                }
+                Token::Word(word) => match push_path(&mut operands, word) {
+                    Ok(()) => rest = next.after,
+                    Err(Fault::Refused(_)) => {
+                        return Err(Fault::Refused(Stop::At(BpFault::Shape(next.place))));
+                    }
+                    Err(Fault::NoMemory) => return Err(Fault::NoMemory),
+                },
+                _ => match push_expr(alloc, &mut operands, rest, room) {
+                    Ok(after) => rest = after,
+                    Err(fault) => return Err(fault),
+                },
             },
         }
     }
-}
-
-/// A list of two.
-fn pair(alloc: Global, first: Expr, second: Expr) -> Result<Items<Expr>, NoMemory>
-    ensures { IfOk result (λ pair. pair ≡ first ∷ second ∷ []) }
-{
-    let mut pair = Items::new(alloc);
-    pair.push(first)?;
-    pair.push(second)?;
-    Ok(pair)
 }
 
 /// The operands of a merge.
@@ -170,10 +231,10 @@ fn merged<'a>(alloc: Global, from: Reader<'a>, room: u32) -> Result<(Expr, Reade
         (token.Open ∷ token.Word (keyword Form.Merge) ∷ ws) r.0)
         (pending from.entry) (pending r.1)) (Fails (behind room Form.Merge) (pending from.entry)) }
 {
-    let (first, after) = expr(alloc, from, room)?;
-    let (second, after) = expr(alloc, after, room)?;
-    let given = pair(alloc, first, second)?;
-    let (all, after) = operands(alloc, given, after, room)?;
+    let mut given = Items::new(alloc);
+    let one = push_one(alloc, &mut given, from, room)?;
+    let two = push_one(alloc, &mut given, one, room)?;
+    let (all, after) = operands(alloc, given, two, room)?;
     Ok((Expr::Merge(all), after))
 }
 

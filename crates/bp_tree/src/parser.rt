@@ -1,6 +1,7 @@
 //! Blueprint text as an image.
 //!
-//! First the length, then the bytes that may not stand in a text, then the tokens by the grammar.
+//! First the length, then the tokens by the grammar. Bytes that may not stand in a text are looked for
+//! only where it is no image: they come before any other fault.
 
 ghost use Rattle.std.specs.Prelude.{◌≡◌, ◌≤◌, [], All, length, MatchOption};
 ghost use Rattle.omos_base.specs.Fault.{MatchFault};
@@ -92,15 +93,15 @@ pub fn parse(alloc: Global, text: &[u8]) -> Result<Image, Fault<BpFault>>
         rest: text,
         place: 0,
     };
-    match first_barred(reader) {
-        Some(place) => Err(Fault::Refused(BpFault::Byte(place))),
-        None => match image(alloc, reader) {
-            Ok(image) => Ok(image),
-            Err(Fault::Refused(Stop::Early)) => {
-                Err(Fault::Refused(BpFault::Shape(text.len() as u32)))
-            }
-            Err(Fault::Refused(Stop::At(fault))) => Err(Fault::Refused(fault)),
-            Err(Fault::NoMemory) => Err(Fault::NoMemory),
+    match image(alloc, reader) {
+        Ok(image) => Ok(image),
+        Err(Fault::NoMemory) => Err(Fault::NoMemory),
+        Err(Fault::Refused(stop)) => match first_barred(reader) {
+            Some(place) => Err(Fault::Refused(BpFault::Byte(place))),
+            None => match stop {
+                Stop::Early => Err(Fault::Refused(BpFault::Shape(text.len() as u32))),
+                Stop::At(fault) => Err(Fault::Refused(fault)),
+            },
         },
     }
 }

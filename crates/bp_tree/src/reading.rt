@@ -5,10 +5,9 @@ ghost use Rattle.std.specs.List.{list_all};
 ghost use Rattle.omos_model.specs.Names.{is_name_byte};
 ghost use Rattle.bp_tree.specs.Tokens.{begins_word};
 ghost use Rattle.bp_tree.specs.Tokens as spec;
-ghost use Rattle.bp_tree.specs.Pending.{pending, AtToken, IsNext};
+ghost use Rattle.bp_tree.specs.Pending.{pending, AtToken, IsFirstWord, IsNext};
 
 use crate::token::{Next, Reader, Token};
-use omos_base::is_name_byte;
 
 /// Whether the byte separates tokens.
 fn is_blank(byte: u8) -> bool
@@ -17,28 +16,35 @@ fn is_blank(byte: u8) -> bool
     byte == b' ' || byte == b'\t' || byte == b'\n' || byte == b'\r'
 }
 
-/// Whether the bytes begin with a word.
-fn starts_word(bytes: &[u8]) -> bool
-    ensures { result ≡ begins_word bytes.now }
+/// Whether a word may have the byte, by what it may not be: most of that is one test of bits.
+fn is_word_byte(byte: u8) -> bool
+    ensures { result ≡ is_name_byte byte }
 {
-    match bytes {
-        [] => false,
-        [byte, ..] => is_name_byte(*byte),
-    }
+    !(byte <= b' ' || byte == b'"' || byte == b'(' || byte == b')' || byte == b';' || byte == 0x7f)
 }
 
-/// How many bytes the word has that the bytes begin with.
-fn word_size(bytes: &[u8]) -> usize
+/// How many bytes that a word may have come first.
+fn run_size(bytes: &[u8]) -> usize
     ensures within { result ≤ length bytes.now }
     ensures word { IsTrue (list_all is_name_byte (take result bytes.now)) }
     ensures longest { begins_word (drop result bytes.now) ≡ false }
 {
     for (size, byte) in bytes.iter().enumerate() {
-        if !is_name_byte(*byte) {
+        if !is_word_byte(*byte) {
             return size;
         }
     }
     bytes.len()
+}
+
+/// How many bytes the word has that the bytes begin with, where they do.
+#[tactic(auto, using(crate::proofs::Runs::first_word, crate::proofs::Runs::no_word))]
+fn word_size(bytes: &[u8]) -> Option<usize>
+    ensures { MatchOption result (begins_word bytes.now ≡ false)
+        (λ size. IsFirstWord size bytes.now) }
+{
+    let size = run_size(bytes);
+    if size == 0 { None } else { Some(size) }
 }
 
 impl<'a> Reader<'a> {
@@ -70,8 +76,7 @@ impl<'a> Reader<'a> {
         ensures { MatchOption result (pending self.entry ≡ []) (IsNext (pending self.entry)) }
     {
         let Reader { rest, place } = self.skip();
-        if starts_word(rest) {
-            let size = word_size(rest);
+        if let Some(size) = word_size(rest) {
             let (word, more) = rest.split_at(size);
             return Some(Next {
                 token: Token::Word(word),

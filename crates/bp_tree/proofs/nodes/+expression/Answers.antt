@@ -4,12 +4,12 @@ use Rattle.bp_tree.specs.Tokens.{Close, Word}
 use Rattle.bp_tree.specs.Pending.{pending, placed, seen}
 use Rattle.bp_tree.specs.Symbols.{It, AnExpr, Exprs, Fails, arguments, keyword, kind_nesting, form_nesting}
 use Rattle.bp_tree.specs.declared.form.Form.TheVariants as form
-use Rattle.bp_tree.proofs.Arms.{err_arm, onward}
-use Rattle.bp_tree.proofs.Sights.{seen_open, seen_close, seen_word, word_is, not_open}
+use Rattle.bp_tree.proofs.Arms.{err_arm, fault_onward, onward}
+use Rattle.bp_tree.proofs.Sights.{seen_open, seen_close, seen_word, word_is, not_open, not_close}
 use Rattle.bp_tree.proofs.Sequences.{fails_first, then_fails}
 use Rattle.bp_tree.proofs.Solids.{solid_it, solid_exprs, solid_end, solid_more}
 use Rattle.bp_tree.proofs.Expressions.{expr_early, expr_shape, expr_deep, path_read, opened_read, opened_fails, inside_early, inside_shape, form_read, form_fails, same_form}
-use Rattle.bp_tree.proofs.Operands.{operands_early, operand_fails, operand_more, operands_done}
+use Rattle.bp_tree.proofs.Operands.{operands_early, operand_fails, operand_more, operands_done, path_more, word_fails}
 use Rattle.bp_tree.proofs.Forms.{applied_done, overridden_done, merged_done, shorter, no_path}
 use Rattle.bp_tree.proofs.nodes.+expression.Goals as goal
 
@@ -87,39 +87,58 @@ overridden-returns t c =
 
 -- ---- merged
 
-pub merged-returns-in_err-first : goal.merged-returns-in_err-first
-merged-returns-in_err-first t c =
+pub merged-returns-in_err-one : goal.merged-returns-in_err-one
+merged-returns-in_err-one t c =
     let one = AnExpr c.args.room ∷ [] in
     let last = AnExpr c.args.room ∷ Exprs c.args.room ∷ [] in
-    err_arm c.from_residual.result c.in_err-first.field-0.0 _ _ (Fails one (pending c.args.from)) (Fails (one ++ last) (pending c.args.from))
-    c.from_residual.ensures.0 c.from_residual.ensures.1 c.in_err-first.ensures
+    err_arm c.from_residual.result c.in_err-one.field-0.0 _ _ (Fails one (pending c.args.from)) (Fails (one ++ last) (pending c.args.from))
+    c.from_residual.ensures.0 c.from_residual.ensures.1 c.in_err-one.ensures
     (λ stop f. fails_first one last (pending c.args.from) stop (solid_more c.args.room) f)
 
-pub merged-returns-in_err-second : goal.merged-returns-in_err-second
-merged-returns-in_err-second t c =
+pub merged-returns-in_err-two : goal.merged-returns-in_err-two
+merged-returns-in_err-two t c =
     let one = AnExpr c.args.room ∷ [] in
     let last = AnExpr c.args.room ∷ Exprs c.args.room ∷ [] in
-    let r = c.from_residual-in_err-second in
-    err_arm r.result c.in_err-second.field-0.0 _ _ (Fails one (pending c.in_ok-first.after)) (Fails (one ++ last) (pending c.args.from))
-    r.ensures.0 r.ensures.1 c.in_err-second.ensures
-    (λ stop f. then_fails one last _ (pending c.args.from) (pending c.in_ok-first.after) stop c.in_ok-first.ensures
-    (fails_first one (Exprs c.args.room ∷ []) (pending c.in_ok-first.after) stop (solid_exprs c.args.room) f))
+    let r = c.from_residual-in_err-two in
+    err_arm r.result c.in_err-two.field-0.0 _ _ (Fails one (pending c.in_ok-one.one)) (Fails (one ++ last) (pending c.args.from))
+    r.ensures.0 r.ensures.1 c.in_err-two.ensures
+    (λ stop f. then_fails one last _ (pending c.args.from) (pending c.in_ok-one.one) stop c.in_ok-one.ensures.2
+    (fails_first one (Exprs c.args.room ∷ []) (pending c.in_ok-one.one) stop (solid_exprs c.args.room) f))
 
 pub merged-returns-in_err-all : goal.merged-returns-in_err-all
 merged-returns-in_err-all t c =
     let one = AnExpr c.args.room ∷ [] in
     let last = AnExpr c.args.room ∷ Exprs c.args.room ∷ [] in
     let r = c.from_residual-in_err-all in
-    err_arm r.result c.in_err-all.field-0.0 _ _ (Fails (Exprs c.args.room ∷ []) (pending c.in_ok-second.after)) (Fails (one ++ last) (pending c.args.from))
+    err_arm r.result c.in_err-all.field-0.0 _ _ (Fails (Exprs c.args.room ∷ []) (pending c.in_ok-two.two)) (Fails (one ++ last) (pending c.args.from))
     r.ensures.0 r.ensures.1 c.in_err-all.ensures
-    (λ stop f. then_fails one last _ (pending c.args.from) (pending c.in_ok-first.after) stop c.in_ok-first.ensures
-    (then_fails one (Exprs c.args.room ∷ []) _ (pending c.in_ok-first.after) (pending c.in_ok-second.after) stop c.in_ok-second.ensures f))
+    (λ stop f. then_fails one last _ (pending c.args.from) (pending c.in_ok-one.one) stop c.in_ok-one.ensures.2
+    (then_fails one (Exprs c.args.room ∷ []) _ (pending c.in_ok-one.one) (pending c.in_ok-two.two) stop c.in_ok-two.ensures.2 f))
 
 pub merged-returns : goal.merged-returns
 merged-returns t c =
-    merged_done c.args.room c.in_ok-first.first c.in_ok-second.second c.in_ok-given.given c.in_ok-all.all
-    (pending c.args.from) (pending c.in_ok-first.after) (pending c.in_ok-second.after) (pending c.in_ok-all.after)
-    c.in_ok-first.ensures c.in_ok-second.ensures c.in_ok-all.ensures c.in_ok-given.ensures
+    let x = c.in_ok-one.ensures in
+    let y = c.in_ok-two.ensures in
+    merged_done c.args.room x.0 y.0 c.push_one-2.new.operands c.in_ok-all.all
+    (pending c.args.from) (pending c.in_ok-one.one) (pending c.in_ok-two.two) (pending c.in_ok-all.after)
+    x.2 y.2 c.in_ok-all.ensures (y.1 ∙ ap (λ l. l ++ y.0 ∷ []) (x.1 ∙ ap (λ l. l ++ x.0 ∷ []) c.new-given.ensures))
+
+-- ---- one more operand
+
+pub push_one-returns-in-None : goal.push_one-returns-in-None
+push_one-returns-in-None t c = expr_early c.args.room (pending c.args.from) c.in-None.ensures
+
+pub push_one-returns-in-Ok : goal.push_one-returns-in-Ok
+push_one-returns-in-Ok t c =
+    let n = c.in-Some.next in
+    path_more c.args.room c.args.operands.now c.push_path.new.operands c.in-Word.word.now (pending c.args.from) (placed n)
+    (pending n.after) c.in-Some.ensures (ap seen c.in-Word.is) c.in-Ok.ensures.0 c.in-Ok.ensures.1
+
+pub push_one-returns-in-Err-Refused : goal.push_one-returns-in-Err-Refused
+push_one-returns-in-Err-Refused t c =
+    let n = c.in-Some.next in
+    word_fails c.args.room c.in-Word.word.now (pending c.args.from) (placed n) (pending n.after)
+    c.in-Some.ensures (ap seen c.in-Word.is) (rw c.in-Err-Refused.field-0-is at c.in-Err-Refused.ensures)
 
 -- ---- operands
 
@@ -133,27 +152,41 @@ operands-returns-in-Close t c =
     operands_done c.args.room c.args.given c.operands.operands (pending c.args.from) (pending c.operands.rest)
     (pending c.in-Some.next.after) (placed c.in-Some.next) c.operands.invariant c.in-Some.ensures (ap seen c.in-Close.is)
 
-pub operands-returns-in_err-operand-in_default : goal.operands-returns-in_err-operand-in_default
-operands-returns-in_err-operand-in_default t c =
-    let e = c.in_err-operand-in_default in
-    let r = c.from_residual in
-    err_arm r.result e.field-0.0 _ _ (Fails (AnExpr c.args.room ∷ []) (pending c.operands.rest)) (Fails (Exprs c.args.room ∷ []) (pending c.args.from))
-    r.ensures.0 r.ensures.1 e.ensures
+pub operands-returns-in-Err-Refused : goal.operands-returns-in-Err-Refused
+operands-returns-in-Err-Refused t c =
+    let n = c.in-Some.next in
+    operand_fails c.args.room c.args.given c.operands.operands (pending c.args.from) (pending c.operands.rest)
+    (placed n) (pending n.after) _ c.operands.invariant c.in-Some.ensures (not_close n.token c.in-Word.word c.in-Word.is)
+    (word_fails c.args.room c.in-Word.word.now (pending c.operands.rest) (placed n) (pending n.after)
+    c.in-Some.ensures (ap seen c.in-Word.is) (rw c.in-Err-Refused.field-0-is at c.in-Err-Refused.ensures))
+
+pub operands-returns-in-Err : goal.operands-returns-in-Err
+operands-returns-in-Err t c =
+    fault_onward _ c.in-Err.fault _ _ (Fails (Exprs c.args.room ∷ []) (pending c.args.from)) c.in-Err.ensures
     (λ stop f. operand_fails c.args.room c.args.given c.operands.operands (pending c.args.from) (pending c.operands.rest)
     (placed c.in-Some.next) (pending c.in-Some.next.after) stop c.operands.invariant c.in-Some.ensures
     (λ h. seen_close c.in-Some.next.token h c.in_default.not-Close) f)
 
+pub operands-operands-preserved-in-Ok : goal.operands-operands-preserved-in-Ok
+operands-operands-preserved-in-Ok t c =
+    let n = c.in-Some.next in
+    let x = path_more c.args.room c.operands.operands c.push_path.new.operands c.in-Word.word.now (pending c.operands.rest) (placed n)
+    (pending n.after) c.in-Some.ensures (ap seen c.in-Word.is) c.in-Ok.ensures.0 c.in-Ok.ensures.1 in
+    operand_more c.args.room c.args.given c.operands.operands c.push_path.new.operands x.0 (pending c.args.from) (pending c.operands.rest)
+    (placed n) (pending n.after) (pending n.after) c.operands.invariant c.in-Some.ensures
+    (not_close n.token c.in-Word.word c.in-Word.is) x.2 x.1
+
 pub operands-operands-preserved : goal.operands-operands-preserved
 operands-operands-preserved t c =
-    let k = c.in_ok-operand-in_default in
-    operand_more c.args.room c.args.given c.operands.operands c.push.new.self k.operand (pending c.args.from) (pending c.operands.rest)
-    (placed c.in-Some.next) (pending c.in-Some.next.after) (pending k.after) c.operands.invariant c.in-Some.ensures
-    (λ h. seen_close c.in-Some.next.token h c.in_default.not-Close) k.ensures c.in_ok-push-in_default.ensures.ok
+    let x = c.in-Ok-push_expr.ensures in
+    operand_more c.args.room c.args.given c.operands.operands c.push_expr.new.operands x.0 (pending c.args.from) (pending c.operands.rest)
+    (placed c.in-Some.next) (pending c.in-Some.next.after) (pending c.in-Ok-push_expr.after) c.operands.invariant c.in-Some.ensures
+    (λ h. seen_close c.in-Some.next.token h c.in_default.not-Close) x.2 x.1
 
 pub operands-operands-smaller : goal.operands-operands-smaller
 operands-operands-smaller t c =
-    let k = c.in_ok-operand-in_default in
-    shorter c.args.room k.operand (pending c.operands.rest) (pending k.after) k.ensures
+    let x = c.in-Ok-push_expr.ensures in
+    shorter c.args.room x.0 (pending c.operands.rest) (pending c.in-Ok-push_expr.after) x.2
 
 -- ---- inside
 
