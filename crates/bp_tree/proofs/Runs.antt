@@ -4,7 +4,7 @@ use Rattle.std.proofs.Common.{length, refl, arith, ◌&&◌, ap, sym, subst, ◌
 use Rattle.std.proofs.lemmas.List.{take-append-drop, length-take-le}
 use Rattle.std.specs.List.{list_all}
 use Rattle.omos_model.specs.Names.{is_name_byte}
-use Rattle.bp_tree.specs.Pending.{IsFirstWord}
+use Rattle.bp_tree.specs.Pending.{begins_comment, AtByte, AtToken, IsFirstWord}
 use Rattle.bp_tree.specs.Tokens.{Word, Placed, tokens_from, begins_word, is_blank, in_front, mark}
 
 pub no_comment : (b : ℕ) → is_name_byte b ≡ true → (b == 59) ≡ false
@@ -93,3 +93,24 @@ pub no_word : (bytes : List ℕ) (size : ℕ) → size ≡ 0 → begins_word (dr
     → begins_word bytes ≡ false
 no_word bytes zero none ends = ends
 no_word bytes (suc n) none ends = absurd (omega arith)
+
+-- ---- blanks and comments
+
+uncommented : (b : ℕ) → is_blank b ≡ true → (b == 59) ≡ false
+uncommented b h = grind arith
+
+passed : (now later other : List Placed) (s k : Bool) → s ≡ false → k ≡ true
+    → cond s now (cond k later other) ≡ later
+passed now later other s k e f = rw (e, f) refl
+
+pub blank_step : (b place : ℕ) (rest : List ℕ) → is_blank b ≡ true
+    → tokens_from false place (b ∷ rest) ≡ tokens_from false (place + 1) rest
+blank_step b place rest h =
+    passed (tokens_from true (place + 1) rest) (tokens_from false (place + 1) rest)
+    (cond (is_name_byte b && begins_word rest) (in_front b place (tokens_from false (place + 1) rest))
+    (record { token = cond (is_name_byte b) (Word (b ∷ [])) (mark b); place = place }
+    ∷ tokens_from false (place + 1) rest)) (b == 59) (is_blank b) (uncommented b h) h
+
+pub at_token : (bytes : List ℕ) → AtByte bytes → begins_comment bytes ≡ false → AtToken bytes
+at_token [] at none = at
+at_token (b ∷ bs) at none = (none, at)

@@ -1,5 +1,5 @@
 -- What a reader has before it.
-use Rattle.std.specs.Prelude.{◌≡◌, ◌≤◌, ℕ, List, [], ◌∷◌, true, false, ◌==◌, take, drop, length, IsTrue}
+use Rattle.std.specs.Prelude.{◌≡◌, ◌≤◌, ℕ, List, [], ◌∷◌, Bool, true, false, ◌==◌, take, drop, length, IsTrue}
 use Rattle.std.specs.List.{list_all}
 use Rattle.omos_model.specs.Names.{is_name_byte}
 use Rattle.bp_tree.specs.Tokens.{Token, Open, Close, Word, Barred, Placed, tokens_from, begins_word, is_blank}
@@ -15,6 +15,15 @@ pending r = tokens_from false r.place r.rest.now
 abbrev pub AtToken : List ℕ → Type 0
 AtToken [] = Unit {0}
 AtToken (byte ∷ rest) = ((byte == 59) ≡ false) × (is_blank byte ≡ false)
+
+-- the bytes begin with no blank
+abbrev pub AtByte : List ℕ → Type 0
+AtByte [] = Unit {0}
+AtByte (byte ∷ rest) = is_blank byte ≡ false
+
+abbrev pub begins_comment : List ℕ → Bool
+begins_comment [] = false
+begins_comment (byte ∷ rest) = byte == 59
 
 abbrev pub seen : kind.Token → Token
 seen code.Open = Open

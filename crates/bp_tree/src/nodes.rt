@@ -126,7 +126,7 @@ fn overridden<'a>(
 }
 
 /// Appends the path that a word is. Most operands are paths: none of them is handed up, nor is why
-/// a word is no path. It isn't inlined, since the loop would set the room of a path to zero each time.
+/// a word is no path. Inlined, it would set the room of a path to zero at each turn of the loop.
 #[inline(never)]
 #[tactic(auto, using(crate::proofs::Forms::no_path))]
 fn push_path(operands: &mut Items<Expr>, word: &[u8]) -> Result<(), Fault<()>>

@@ -5,7 +5,7 @@ ghost use Rattle.std.specs.List.{list_all};
 ghost use Rattle.omos_model.specs.Names.{is_name_byte};
 ghost use Rattle.bp_tree.specs.Tokens.{begins_word};
 ghost use Rattle.bp_tree.specs.Tokens as spec;
-ghost use Rattle.bp_tree.specs.Pending.{pending, AtToken, IsFirstWord, IsNext};
+ghost use Rattle.bp_tree.specs.Pending.{pending, begins_comment, AtByte, AtToken, IsFirstWord, IsNext};
 
 use crate::token::{Next, Reader, Token};
 
@@ -14,6 +14,16 @@ fn is_blank(byte: u8) -> bool
     ensures { result ≡ spec.is_blank byte }
 {
     byte == b' ' || byte == b'\t' || byte == b'\n' || byte == b'\r'
+}
+
+/// Whether the bytes begin with a comment.
+fn starts_comment(bytes: &[u8]) -> bool
+    ensures { result ≡ begins_comment bytes.now }
+{
+    match bytes {
+        [] => false,
+        [byte, ..] => *byte == b';',
+    }
 }
 
 /// Whether a word may have the byte, by what it may not be: most of that is one test of bits.
@@ -48,8 +58,8 @@ fn word_size(bytes: &[u8]) -> Option<usize>
 }
 
 impl<'a> Reader<'a> {
-    /// Goes past blanks and comments.
-    fn skip(self) -> Reader<'a>
+    /// Goes past blanks and comments, byte by byte.
+    fn skip_comments(self) -> Reader<'a>
         ensures same { pending result ≡ pending self.entry }
         ensures at { AtToken result.rest.now }
     {
@@ -68,6 +78,38 @@ impl<'a> Reader<'a> {
             place += 1;
         }
         Reader { rest, place }
+    }
+
+    /// Goes past blanks.
+    #[tactic(auto, using(crate::proofs::Runs::blank_step))]
+    fn skip_blanks(self) -> Reader<'a>
+        ensures same { pending result ≡ pending self.entry }
+        ensures at { AtByte result.rest.now }
+    {
+        let mut rest = self.rest;
+        let mut place = self.place;
+        'blanks: while let Some((byte, more)) = rest.split_first() {
+            if !is_blank(*byte) {
+                break;
+            }
+            rest = more;
+            place += 1;
+        }
+        Reader { rest, place }
+    }
+
+    /// Goes past blanks and comments: past blanks alone first, since few tokens stand behind a comment.
+    #[tactic(auto, using(crate::proofs::Runs::at_token))]
+    fn skip(self) -> Reader<'a>
+        ensures same { pending result ≡ pending self.entry }
+        ensures at { AtToken result.rest.now }
+    {
+        let reader = self.skip_blanks();
+        if starts_comment(reader.rest) {
+            reader.skip_comments()
+        } else {
+            reader
+        }
     }
 
     /// The first token, or none at the end.

@@ -1,6 +1,6 @@
 use Rattle.std.proofs.Common.{◌≡◌, ◌≤◌, ◌+◌, length, false}
 use Rattle.bp_tree.specs.Tokens.{tokens_from}
-use Rattle.bp_tree.proofs.token.Reader.skip.Given as goal
+use Rattle.bp_tree.proofs.token.Reader.skip_comments.Given as goal
 
 abbrev pub invariant-bytes : goal.invariant-bytes
 invariant-bytes l = record {
