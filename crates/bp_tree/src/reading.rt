@@ -8,6 +8,7 @@ ghost use Rattle.bp_tree.specs.Tokens as spec;
 ghost use Rattle.bp_tree.specs.Pending.{pending, begins_comment, AtByte, AtToken, IsFirstWord, IsNext};
 
 use crate::token::{Next, Reader, Token};
+use omos_base::is_name_byte;
 
 /// Whether the byte separates tokens.
 fn is_blank(byte: u8) -> bool
@@ -26,13 +27,6 @@ fn starts_comment(bytes: &[u8]) -> bool
     }
 }
 
-/// Whether a word may have the byte, by what it may not be: most of that is one test of bits.
-fn is_word_byte(byte: u8) -> bool
-    ensures { result ≡ is_name_byte byte }
-{
-    !(byte <= b' ' || byte == b'"' || byte == b'(' || byte == b')' || byte == b';' || byte == 0x7f)
-}
-
 /// How many bytes that a word may have come first.
 fn run_size(bytes: &[u8]) -> usize
     ensures within { result ≤ length bytes.now }
@@ -40,7 +34,7 @@ fn run_size(bytes: &[u8]) -> usize
     ensures longest { begins_word (drop result bytes.now) ≡ false }
 {
     for (size, byte) in bytes.iter().enumerate() {
-        if !is_word_byte(*byte) {
+        if !is_name_byte(*byte) {
             return size;
         }
     }
