@@ -1,4 +1,5 @@
 pub mod Counted
+pub mod Found
 pub mod Operators
 pub mod LeafParts
 pub mod Meant

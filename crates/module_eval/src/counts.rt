@@ -1,16 +1,18 @@
 //! How far a walk through expressions has come.
 
-ghost use Rattle.std.specs.Prelude.{◌≡◌, ◌+◌, ◌≤◌, OnOk};
+ghost use Rattle.std.specs.Prelude.{◌≡◌, ◌+◌, ◌≤◌, OnOk, Some};
 ghost use Rattle.omos_model.specs.Expansion.{add_read, begin, begin_path, first_visit};
 ghost use Rattle.omos_model.specs.Expansion.{leaf, site_of};
 ghost use Rattle.module_table.specs.Faults.{Tells};
+ghost use Rattle.omos_model.specs.Namespace.{Space, look_up};
+ghost use Rattle.module_eval.specs.Found.{AreFound};
 ghost use Rattle.module_eval.specs.Counted.{AreCounted, StepsToLeaf, StepsToNode, visit_of};
 
 use crate::node::{Stop, site, stopped};
 use crate::read_path::ReadPath;
-use indexmap::IndexSet;
+use indexmap::IndexMap;
 use omos_base::{NoMemory, PathName};
-use omos_model::{Fragment, Refusal};
+use omos_model::{Fragment, Refusal, Stamped};
 use std::alloc::Global;
 
 const MAX_NODES: u32 = 4_096;
@@ -33,8 +35,8 @@ pub struct Counts<'a> {
     pub exports: u32,
     /// How many fixups the leaves have in all.
     pub fixups: u32,
-    /// The distinct paths read, in order of first reading. They are lent.
-    pub read: IndexSet<ReadPath<'a>>,
+    /// The distinct paths read, in order of first reading, each with its entry. They are lent.
+    pub read: IndexMap<ReadPath<'a>, &'a Stamped>,
 }
 
 impl<'a> Counts<'a> {
@@ -49,7 +51,7 @@ impl<'a> Counts<'a> {
             leaves: 0,
             exports: 0,
             fixups: 0,
-            read: IndexSet::new(alloc),
+            read: IndexMap::new(alloc),
         }
     }
 
@@ -77,6 +79,7 @@ pub fn begin_node(at: &PathName, counts: &mut Counts<'_>) -> Result<u32, Stop>
     ensures walk { StepsToNode result at.now (begin at.now (visit_of counts.old)) counts.new }
     ensures counted { AreCounted counts.new }
     ensures more { OnOk result (counts.new.nodes ≡ counts.old.nodes + 1) }
+    ensures read { counts.new.read ≡ counts.old.read }
     ensures least { counts.old.nodes ≤ counts.new.nodes }
 {
     let node = counts.node;
@@ -93,6 +96,7 @@ fn begin_if(counted: bool, at: &PathName, counts: &mut Counts<'_>) -> Result<u32
     ensures walk { StepsToNode result at.now
         (begin_path counted at.now (visit_of counts.old)) counts.new }
     ensures counted { AreCounted counts.new }
+    ensures read { counts.new.read ≡ counts.old.read }
     ensures least { counts.old.nodes ≤ counts.new.nodes }
 {
     if counted {
@@ -102,13 +106,20 @@ fn begin_if(counted: bool, at: &PathName, counts: &mut Counts<'_>) -> Result<u32
     }
 }
 
-fn note_read<'a>(path: &'a PathName, counts: &mut Counts<'a>) -> Result<(), NoMemory>
+#[tactic(auto, using(crate::proofs::Beside::read_keys, crate::proofs::Beside::found_more))]
+fn note_read<'a>(
+    path: &'a PathName,
+    found: &'a Stamped,
+    counts: &mut Counts<'a>,
+) -> Result<(), NoMemory>
     requires { AreCounted counts.old }
     ensures read { OnOk result (visit_of counts.new ≡ add_read path.now (visit_of counts.old)) }
     ensures counted { AreCounted counts.new }
     ensures same { counts.new.nodes ≡ counts.old.nodes }
+    ensures found { OnOk result ((ns : Space) → look_up ns path.now ≡ Some found.now
+        → AreFound ns counts.old.read.entries → AreFound ns counts.new.read.entries) }
 {
-    counts.read.insert(ReadPath::of(path))?;
+    counts.read.insert(ReadPath::of(path), found)?;
     Ok(())
 }
 
@@ -117,6 +128,7 @@ pub fn enter<'a>(
     counted: bool,
     at: &PathName,
     path: &'a PathName,
+    found: &'a Stamped,
     counts: &mut Counts<'a>,
 ) -> Result<u32, Stop>
     requires { AreCounted counts.old }
@@ -124,8 +136,10 @@ pub fn enter<'a>(
         (begin_path counted at.now (add_read path.now (visit_of counts.old))) counts.new }
     ensures counted { AreCounted counts.new }
     ensures least { counts.old.nodes ≤ counts.new.nodes }
+    ensures found { OnOk result ((ns : Space) → look_up ns path.now ≡ Some found.now
+        → AreFound ns counts.old.read.entries → AreFound ns counts.new.read.entries) }
 {
-    note_read(path, counts)?;
+    note_read(path, found, counts)?;
     begin_if(counted, at, counts)
 }
 
@@ -141,6 +155,7 @@ pub fn count_leaf(
         (leaf fragment.now (site_of at.now node) (visit_of counts.old)) counts.new }
     ensures counted { AreCounted counts.new }
     ensures same { counts.new.nodes ≡ counts.old.nodes }
+    ensures read { counts.new.read ≡ counts.old.read }
 {
     let exports = fragment.exports().len();
     let fixups = fragment.fixups().len();

@@ -1,11 +1,13 @@
 //! The evaluation of a path.
 
-ghost use Rattle.std.specs.Prelude.{◌≡◌, IfOk, Some};
+ghost use Rattle.std.specs.Prelude.{◌≡◌, IfOk, OnOk, Some};
+ghost use Rattle.std.specs.Map.{keys_of};
 ghost use Rattle.omos_base.specs.Fault.{MatchFault};
 ghost use Rattle.omos_model.specs.Expansion.{expansion, first_visit};
 ghost use Rattle.link_model.specs.Module.{IsModule};
 ghost use Rattle.module_eval.specs.Counted.{AreCounted, visit_of};
 ghost use Rattle.module_eval.specs.Evaluations.{IsBuiltOn, IsEvaluatedOn, refusal_of};
+ghost use Rattle.module_eval.specs.Found.{AreFound};
 ghost use Rattle.module_eval.specs.Walked.{Walked};
 
 use crate::counts::Counts;
@@ -15,11 +17,12 @@ use crate::part::{Part, built};
 use crate::read_path::ReadPath;
 use crate::terms::{self, Terms};
 use crate::walk::visit_path;
+use indexmap::IndexMap;
 use link_model::Evaluated;
 use module_table::Table;
 use name_tree::Snap;
 use omos_base::{Fault, NoMemory, PathName};
-use omos_model::Refusal;
+use omos_model::{Refusal, Stamped};
 use sqlite_items::Items;
 use std::alloc::Global;
 
@@ -32,7 +35,8 @@ fn expand<'a>(
 ) -> Result<Part, Stop>
     requires first { visit_of counts.old ≡ first_visit }
     requires counted { AreCounted counts.old }
-    ensures { Walked result (expansion snap.now path.now) counts.new }
+    ensures walk { Walked result (expansion snap.now path.now) counts.new }
+    ensures found { OnOk result (AreFound snap.now counts.new.read.entries) }
 {
     let mut above = Items::new(alloc);
     visit_path(snap, &mut above, false, path, path, counts)
@@ -44,16 +48,17 @@ fn finish(
     snap: &Snap,
     path: &PathName,
     table: &Table,
-    read: &[ReadPath],
+    read: &IndexMap<ReadPath, &Stamped>,
 ) -> Result<Evaluated, NoMemory>
-    requires { IsBuiltOn snap.now path.now table.now read.now }
+    requires built { IsBuiltOn snap.now path.now table.now (keys_of read.now.entries) }
+    requires found { AreFound snap.now read.now.entries }
     ensures { IfOk result (IsEvaluatedOn snap.now path.now) }
 {
     let Some(own) = snap.get(path) else {
         unreachable!()
     };
     let terms = terms::of_entry(alloc, own.entry.get())?;
-    let entries = entries_of(alloc, snap, read)?;
+    let entries = entries_of(alloc, read)?;
     let Terms { start, lo, hi } = terms;
     let module = Evaluated::of_table(alloc, path.copy(), table, entries, start, lo, hi)?;
     // What the module keeps.
@@ -75,7 +80,7 @@ pub fn evaluate(alloc: Global, snap: &Snap, path: &PathName) -> Result<Evaluated
     let mut counts = Counts::new(alloc);
     match expand(alloc, snap, path, &mut counts) {
         Ok(part) => match built(alloc, part)? {
-            Ok(table) => { Ok(finish(alloc, snap, path, table.get(), counts.read.as_slice())?) }
+            Ok(table) => { Ok(finish(alloc, snap, path, table.get(), &counts.read)?) }
             Err(refusal) => Err(Fault::Refused(refusal.into_inner())),
         },
         Err(Fault::Refused(refusal)) => Err(Fault::Refused(refusal.into_inner())),

@@ -1,18 +1,20 @@
 //! The leaf of an object's path.
 
-ghost use Rattle.std.specs.Prelude.{◌≡◌, ◌≤◌};
+ghost use Rattle.std.specs.Prelude.{◌≡◌, ◌≤◌, OnOk, Some};
 ghost use Rattle.omos_model.specs.Expansion.{add_read, and_then, begin_path, leaf};
 ghost use Rattle.omos_model.specs.FragmentParts.{FragmentParts};
 ghost use Rattle.module_table.specs.Stands.{IsObject};
 ghost use Rattle.module_eval.specs.Counted.{AreCounted, visit_of};
+ghost use Rattle.omos_model.specs.Namespace.{Space, look_up};
+ghost use Rattle.module_eval.specs.Found.{AreFound};
 ghost use Rattle.module_eval.specs.Walked.{Walked};
 
 use crate::counts::{Counts, count_leaf, enter};
 use crate::leaf::Leaf;
 use crate::node::Stop;
 use crate::part::Part;
-use omos_base::{PathName, Shared};
-use omos_model::Entry;
+use omos_base::PathName;
+use omos_model::{Entry, Stamped};
 
 /// The object of a path as a leaf, of which no table is made yet.
 #[inline(never)]
@@ -20,21 +22,23 @@ pub fn visit_object<'a>(
     counted: bool,
     at: &PathName,
     path: &'a PathName,
-    entry: &Shared<Entry>,
+    found: &'a Stamped,
     counts: &mut Counts<'a>,
 ) -> Result<Part, Stop>
-    requires object { IsObject entry.now }
+    requires object { IsObject found.now.entry }
     requires counted { AreCounted counts.old }
-    ensures walk { (f : FragmentParts) → entry.now ≡ Entry.Object f → Walked result
+    ensures walk { (f : FragmentParts) → found.now.entry ≡ Entry.Object f → Walked result
         (and_then (begin_path counted at.now (add_read path.now (visit_of counts.old))) (leaf f))
         counts.new }
     ensures counted { AreCounted counts.new }
     ensures least { counts.old.nodes ≤ counts.new.nodes }
+    ensures found { OnOk result ((ns : Space) → look_up ns path.now ≡ Some found.now
+        → AreFound ns counts.old.read.entries → AreFound ns counts.new.read.entries) }
 {
-    let Entry::Object(fragment) = entry.get() else {
+    let Entry::Object(fragment) = found.entry.get() else {
         unreachable!()
     };
-    let node = enter(counted, at, path, counts)?;
+    let node = enter(counted, at, path, found, counts)?;
     let number = count_leaf(at, node, fragment, counts)?;
-    Ok(Part::Leaf(Leaf::of(number, entry.twin()?)))
+    Ok(Part::Leaf(Leaf::of(number, found.entry.twin()?)))
 }

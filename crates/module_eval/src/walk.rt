@@ -3,10 +3,12 @@
 ghost use Rattle.std.specs.Prelude.{◌≡◌, ◌+◌, ◌≤◌, true, length, map, IsTrue, Ok, OnOk, Some};
 ghost use Rattle.omos_model.specs.Expansion.{Blueprint, source};
 ghost use Rattle.omos_model.specs.ImageParts.{is_formed};
+ghost use Rattle.omos_model.specs.Namespace.{look_up};
 ghost use Rattle.omos_model.specs.Term.{Term};
 ghost use Rattle.omos_model.specs.Tree.{Apply, Tree, merge_of, tree_of};
 ghost use Rattle.omos_model.specs.declared.visit.Visit.{Visit};
 ghost use Rattle.module_eval.specs.Counted.{AreCounted, visit_of};
+ghost use Rattle.module_eval.specs.Found.{AreFound};
 ghost use Rattle.module_eval.specs.Meant.{Means};
 ghost use Rattle.module_eval.specs.Operators.{op_of};
 ghost use Rattle.module_eval.specs.Walked.{Walked, are_formed, path_in, tree_in, tree_with};
@@ -20,7 +22,7 @@ use crate::operator::Operator;
 use crate::part::{self, Join, Part};
 use name_tree::Snap;
 use omos_base::PathName;
-use omos_model::{Entry, Expr, Image};
+use omos_model::{Entry, Expr, Image, Stamped};
 use sqlite_items::Items;
 
 /// The operands of a merge, of which there are at least two.
@@ -52,15 +54,17 @@ pub fn visit_path<'a>(
         (path_in snap.now above.old counted at.now path.now (visit_of counts.old)) counts.new }
     ensures counted { AreCounted counts.new }
     ensures above { OnOk result (above.new ≡ above.old) }
+    ensures found { OnOk result (AreFound snap.now counts.old.read.entries
+        → AreFound snap.now counts.new.read.entries) }
     ensures least { counts.old.nodes ≤ counts.new.nodes }
 {
     let Some(found) = snap.get(path) else {
         return Err(no_entry(counts.alloc(), at, counts.node, path));
     };
     match found.entry.get() {
-        Entry::Object(_) => visit_object(counted, at, path, &found.entry, counts),
+        Entry::Object(_) => visit_object(counted, at, path, found, counts),
         Entry::Blueprint(image) => {
-            visit_blueprint(snap, above, counted, at, path, image, counts)
+            visit_blueprint(snap, above, counted, at, path, found, image, counts)
         }
     }
 }
@@ -73,22 +77,26 @@ fn visit_blueprint<'a>(
     counted: bool,
     at: &PathName,
     path: &'a PathName,
+    found: &'a Stamped,
     image: &'a Image,
     counts: &mut Counts<'a>,
 ) -> Result<Part, Stop>
     requires counted { AreCounted counts.old }
     requires room { length above.old ≤ 32 }
+    requires entry { look_up snap.now path.now ≡ Some found.now }
     requires there { source snap.now path.now ≡ Some (Blueprint (tree_of image.now.body)) }
     ensures walk { Walked result
         (path_in snap.now above.old counted at.now path.now (visit_of counts.old)) counts.new }
     ensures counted { AreCounted counts.new }
     ensures above { OnOk result (above.new ≡ above.old) }
+    ensures found { OnOk result (AreFound snap.now counts.old.read.entries
+        → AreFound snap.now counts.new.read.entries) }
     ensures least { counts.old.nodes ≤ counts.new.nodes }
 {
     if let Some(barred) = bar(counts.alloc(), above.as_slice(), at, path, counts.node) {
         return Err(barred);
     }
-    enter(counted, at, path, counts)?;
+    enter(counted, at, path, found, counts)?;
     above.push(path.copy())?;
     let node = counts.node;
     counts.node = 0;
@@ -114,6 +122,8 @@ fn visit_expr<'a>(
         (tree_in snap.now above.old at.now (tree_of expr.now) (visit_of counts.old)) counts.new }
     ensures counted { AreCounted counts.new }
     ensures above { OnOk result (above.new ≡ above.old) }
+    ensures found { OnOk result (AreFound snap.now counts.old.read.entries
+        → AreFound snap.now counts.new.read.entries) }
     ensures least { counts.old.nodes ≤ counts.new.nodes }
 {
     match expr {
@@ -178,6 +188,8 @@ fn visit_under<'a>(
         (Apply (op_of operator.entry) (tree_of body.now)) (visit_of counts.old)) counts.new }
     ensures counted { AreCounted counts.new }
     ensures above { OnOk result (above.new ≡ above.old) }
+    ensures found { OnOk result (AreFound snap.now counts.old.read.entries
+        → AreFound snap.now counts.new.read.entries) }
     ensures least { counts.old.nodes ≤ counts.new.nodes }
 {
     let node = begin_node(at, counts)?;
@@ -204,6 +216,8 @@ fn visit_two<'a>(
         (tree_with join (tree_of left.now) (tree_of right.now)) (visit_of counts.old)) counts.new }
     ensures counted { AreCounted counts.new }
     ensures above { OnOk result (above.new ≡ above.old) }
+    ensures found { OnOk result (AreFound snap.now counts.old.read.entries
+        → AreFound snap.now counts.new.read.entries) }
     ensures more { OnOk result (counts.old.nodes + 1 ≤ counts.new.nodes) }
     ensures least { counts.old.nodes ≤ counts.new.nodes }
 {
@@ -230,6 +244,8 @@ fn visit_operands<'a>(
         (merge_of (map tree_of operands.now)) (visit_of counts.old)) counts.new }
     ensures counted { AreCounted counts.new }
     ensures above { OnOk result (above.new ≡ above.old) }
+    ensures found { OnOk result (AreFound snap.now counts.old.read.entries
+        → AreFound snap.now counts.new.read.entries) }
     ensures least { counts.old.nodes ≤ counts.new.nodes }
 {
     let [first, second, rest @ ..] = operands else {
@@ -261,6 +277,8 @@ fn visit_more<'a>(
         (tree_in snap.now above.old at.now (with_operands x operands.now) v) counts.new }
     ensures counted { AreCounted counts.new }
     ensures above { OnOk result (above.new ≡ above.old) }
+    ensures found { OnOk result (AreFound snap.now counts.old.read.entries
+        → AreFound snap.now counts.new.read.entries) }
     ensures least { counts.old.nodes ≤ counts.new.nodes }
 {
     let mut left = left;

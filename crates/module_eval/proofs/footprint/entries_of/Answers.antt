@@ -1,22 +1,14 @@
-use Rattle.std.proofs.Common.{◌≡◌, ◌∙◌, ◌+◌, ◌∷◌, ◌++◌, [], List, take, ap, sym, arith}
-use Rattle.std.specs.List.{filter_map}
-use Rattle.std.proofs.lemmas.List.{take_more}
-use Rattle.std.proofs.lemmas.List.Elements.{filter_map-append}
-use Rattle.omos_model.specs.Names.{Name}
-use Rattle.omos_model.specs.Namespace.{look_up}
-use Rattle.omos_model.specs.declared.entry.Stamped.{Stamped}
+use Rattle.std.proofs.Common.{◌∙◌, map}
+use Rattle.std.specs.Map.{values_of}
+use Rattle.module_eval.proofs.Beside.{found_all, taken_all, taken_more}
 use Rattle.module_eval.proofs.footprint.entries_of.Goals as goal
 
-pub loop-read-preserved : goal.loop-read-preserved
-loop-read-preserved c =
-    let xs : List Name = c.args.paths.now in
-    let i = c.loop-read.read-index in
-    let x : Name = c.read-item.result in
-    let f = look_up c.args.snap.now in
-    let step : take (i + 1) xs ≡ take i xs ++ x ∷ [] =
-    take_more xs i x (omega arith) ∙ (λ k. take i xs ++ sym c.read-item.is k ∷ []) in
-    c.in_ok-add.ensures
-    ∙ ap (λ (p : Name). c.loop-read.entries ++ filter_map f (p ∷ [])) c.path.ensures
-    ∙ ap (λ (es : List Stamped). es ++ filter_map f (x ∷ [])) c.loop-read.invariant
-    ∙ sym (filter_map-append f (take i xs) (x ∷ []))
-    ∙ ap (filter_map f) (sym step)
+pub loop-found-preserved : goal.loop-found-preserved
+loop-found-preserved c =
+    taken_more c.loop-found.entries c.push.new.self c.in_ok-twin.field-0 c.in-Some.found.now c.loop-found.found-iterator c.next.new.self
+    (map (λ s. s.now) (values_of c.args.read.now.entries)) c.in_ok-push.ensures.added c.in_ok-twin.ensures c.in-Some.ensures.steps c.loop-found.invariant
+
+pub returns : goal.returns
+returns c ns h =
+    taken_all c.loop-found.entries c.loop-found.found-iterator (map (λ s. s.now) (values_of c.args.read.now.entries)) c.in-None.ensures.steps.0 c.loop-found.invariant
+    ∙ found_all ns c.args.read.now.entries h

@@ -143,5 +143,6 @@ visit_more-operands-preserved t c =
           );
       counted = c.in_ok-right.ensures.counted;
       above = c.in_ok-right.ensures.above ∙ inv.above;
+      found = λ h. c.in_ok-right.ensures.found (inv.found h);
       least = omega (arith, c.in_ok-right.ensures.least);
     }

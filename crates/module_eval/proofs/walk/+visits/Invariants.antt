@@ -3,6 +3,7 @@ use Rattle.omos_model.specs.Term.{Term}
 use Rattle.omos_model.specs.Tree.{Tree}
 use Rattle.omos_model.specs.declared.visit.Visit.{Visit}
 use Rattle.module_eval.specs.Counted.{AreCounted, visit_of}
+use Rattle.module_eval.specs.Found.{AreFound}
 use Rattle.module_eval.specs.Meant.{Means}
 use Rattle.module_eval.specs.Walked.{tree_in, with_operands}
 use Rattle.module_eval.proofs.walk.+visits.Given as goal
@@ -48,5 +49,6 @@ invariant-visit_more-operands l =
           × Means l.left u;
       counted : AreCounted l.counts;
       above : l.above ≡ l.fn.above;
+      found : AreFound l.snap l.fn.counts.read.entries → AreFound l.snap l.counts.read.entries;
       least : l.fn.counts.nodes ≤ l.counts.nodes;
     }
