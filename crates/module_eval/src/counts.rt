@@ -106,7 +106,7 @@ fn begin_if(counted: bool, at: &PathName, counts: &mut Counts<'_>) -> Result<u32
     }
 }
 
-#[tactic(auto, using(crate::proofs::Beside::read_keys, crate::proofs::Beside::found_more))]
+#[tactic(auto, using(crate::proofs::Beside::found_more))]
 fn note_read<'a>(
     path: &'a PathName,
     found: &'a Stamped,
