@@ -4,4 +4,5 @@ pub mod Operators
 pub mod LeafParts
 pub mod Meant
 pub mod Walked
+pub mod Pendings
 pub mod Evaluations

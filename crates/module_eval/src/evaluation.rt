@@ -70,8 +70,8 @@ fn finish(
 /// before any of L5 to L8, and these in post-order, left to right.
 ///
 /// It reads each path once for each node that names it, and applies each operator once, to tables
-/// that are moved; no object is copied. Its calls go as deep as the blueprints nest: at most 32 of
-/// them, of at most 64 parentheses each, with three calls at each.
+/// that are moved; no object is copied. The nodes of a blueprint that have begun wait in a list, so
+/// its calls go only as deep as blueprints stand inside one another: six calls at each of at most 32.
 pub fn evaluate(alloc: Global, snap: &Snap, path: &PathName) -> Result<Evaluated, Fault<Refusal>>
     ensures { MatchFault result
         (IsEvaluatedOn snap.now path.now)

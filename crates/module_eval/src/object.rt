@@ -1,6 +1,6 @@
 //! The leaf of an object's path.
 
-ghost use Rattle.std.specs.Prelude.{◌≡◌, ◌≤◌, OnOk, Some};
+ghost use Rattle.std.specs.Prelude.{◌≡◌, ◌+◌, ◌≤◌, true, OnOk, Some};
 ghost use Rattle.omos_model.specs.Expansion.{add_read, and_then, begin_path, leaf};
 ghost use Rattle.omos_model.specs.FragmentParts.{FragmentParts};
 ghost use Rattle.module_table.specs.Stands.{IsObject};
@@ -32,6 +32,7 @@ pub fn visit_object<'a>(
         counts.new }
     ensures counted { AreCounted counts.new }
     ensures least { counts.old.nodes ≤ counts.new.nodes }
+    ensures more { counted ≡ true → OnOk result (counts.new.nodes ≡ counts.old.nodes + 1) }
     ensures found { OnOk result ((ns : Space) → look_up ns path.now ≡ Some found.now
         → AreFound ns counts.old.read.entries → AreFound ns counts.new.read.entries) }
 {

@@ -1,44 +1,34 @@
 //! The walk through the expressions of blueprints, from left to right, outer before inner.
 
-ghost use Rattle.std.specs.Prelude.{◌≡◌, ◌+◌, ◌≤◌, true, length, map, IsTrue, Ok, OnOk, Some};
-ghost use Rattle.omos_model.specs.Expansion.{Blueprint, source};
+ghost use Rattle.std.specs.Prelude.{◌≡◌, ◌+◌, ◌≤◌, ◌∷◌, true, length, reverse, IsTrue, OnOk, Some};
+ghost use Rattle.omos_model.specs.Expansion.{Blueprint, Visited, site_of, source};
 ghost use Rattle.omos_model.specs.ImageParts.{is_formed};
 ghost use Rattle.omos_model.specs.Namespace.{look_up};
 ghost use Rattle.omos_model.specs.Term.{Term};
-ghost use Rattle.omos_model.specs.Tree.{Apply, Tree, merge_of, tree_of};
-ghost use Rattle.omos_model.specs.declared.visit.Visit.{Visit};
+ghost use Rattle.omos_model.specs.Tree.{tree_of};
 ghost use Rattle.module_eval.specs.Counted.{AreCounted, visit_of};
 ghost use Rattle.module_eval.specs.Found.{AreFound};
 ghost use Rattle.module_eval.specs.Meant.{Means};
-ghost use Rattle.module_eval.specs.Operators.{op_of};
-ghost use Rattle.module_eval.specs.Walked.{Walked, are_formed, path_in, tree_in, tree_with};
-ghost use Rattle.module_eval.specs.Walked.{with_operands};
+ghost use Rattle.module_eval.specs.Pendings.{Comes, ComesTo, EndsAt, EndsIn, others_in};
+ghost use Rattle.module_eval.specs.Walked.{Walked, path_in, tree_in};
 
 use crate::counts::{Counts, begin_node, enter};
 use crate::node::Stop;
 use crate::object::visit_object;
 use crate::opening::{bar, no_entry};
-use crate::operator::Operator;
+use crate::operands::Operands;
+use crate::outermost::{Outer, outer_of};
 use crate::part::{self, Join, Part};
+use crate::pending::Pending;
 use name_tree::Snap;
 use omos_base::PathName;
 use omos_model::{Entry, Expr, Image, Stamped};
 use sqlite_items::Items;
 
-/// The operands of a merge, of which there are at least two.
-fn operands_of(operands: &Items<Expr>) -> &[Expr]
-    requires { IsTrue (is_formed (Expr.Merge operands.now)) }
-    ensures operands { result.now ≡ operands.now }
-    ensures two { 2 ≤ length result.now }
-    ensures formed { IsTrue (are_formed result.now) }
-{
-    operands.as_slice()
-}
-
 /// Goes to a path at a node of the blueprint `at`, inside the blueprints `above`.
 ///
-/// The functions that call one another here go at most 32 blueprints deep, of at most 64
-/// parentheses each, with three calls at each.
+/// The functions that call one another here go only as deep as blueprints stand inside one another,
+/// at most 32 times through all of them, however deep the nodes of each are nested.
 #[cycle(visits)]
 pub fn visit_path<'a>(
     snap: &'a Snap,
@@ -57,6 +47,7 @@ pub fn visit_path<'a>(
     ensures found { OnOk result (AreFound snap.now counts.old.read.entries
         → AreFound snap.now counts.new.read.entries) }
     ensures least { counts.old.nodes ≤ counts.new.nodes }
+    ensures more { counted ≡ true → OnOk result (counts.old.nodes + 1 ≤ counts.new.nodes) }
 {
     let Some(found) = snap.get(path) else {
         return Err(no_entry(counts.alloc(), at, counts.node, path));
@@ -92,6 +83,7 @@ fn visit_blueprint<'a>(
     ensures found { OnOk result (AreFound snap.now counts.old.read.entries
         → AreFound snap.now counts.new.read.entries) }
     ensures least { counts.old.nodes ≤ counts.new.nodes }
+    ensures more { counted ≡ true → OnOk result (counts.old.nodes + 1 ≤ counts.new.nodes) }
 {
     if let Some(barred) = bar(counts.alloc(), above.as_slice(), at, path, counts.node) {
         return Err(barred);
@@ -100,15 +92,16 @@ fn visit_blueprint<'a>(
     above.push(path.copy())?;
     let node = counts.node;
     counts.node = 0;
-    let part = visit_expr(snap, above, path, image.body(), counts)?;
+    let part = visit_tree(snap, above, path, image.body(), counts)?;
     counts.node = node;
     above.pop();
     Ok(part)
 }
 
-/// Goes through an expression of the blueprint `at`.
+/// Goes through an expression of the blueprint `at`. The nodes that have begun wait in a list, so
+/// that it takes no deeper stack where they are nested deeper.
 #[cycle(visits)]
-fn visit_expr<'a>(
+fn visit_tree<'a>(
     snap: &'a Snap,
     above: &mut Items<PathName>,
     at: &PathName,
@@ -126,165 +119,136 @@ fn visit_expr<'a>(
         → AreFound snap.now counts.new.read.entries) }
     ensures least { counts.old.nodes ≤ counts.new.nodes }
 {
-    match expr {
-        Expr::Path(path) => visit_path(snap, above, true, at, path, counts),
-        Expr::Merge(operands) => visit_operands(snap, above, at, operands_of(operands), counts),
-        Expr::Override(left, right) => {
-            visit_two(
-                snap,
-                above,
-                at,
-                Join::Override,
-                left.get(),
-                right.get(),
-                counts,
-            )
-        }
-        Expr::Rename { from, to, body } => {
-            let operator = Operator::Rename(from, to);
-            visit_under(snap, above, at, operator, body.get(), counts)
-        }
-        Expr::Restrict { name, body } => {
-            visit_under(
-                snap,
-                above,
-                at,
-                Operator::Restrict(name),
-                body.get(),
-                counts,
-            )
-        }
-        Expr::Freeze { name, body } => {
-            visit_under(snap, above, at, Operator::Freeze(name), body.get(), counts)
-        }
-        Expr::Hide { name, body } => {
-            visit_under(snap, above, at, Operator::Hide(name), body.get(), counts)
-        }
-        Expr::Show { names, body } => {
-            let operator = Operator::Show(names.as_slice());
-            visit_under(snap, above, at, operator, body.get(), counts)
-        }
-        Expr::CopyAs { from, to, body } => {
-            let operator = Operator::CopyAs(from, to);
-            visit_under(snap, above, at, operator, body.get(), counts)
+    let mut pending = Items::new(counts.alloc());
+    let mut part = descend(snap, above, at, expr, &mut pending, counts)?;
+    'pending: while let Some(node) = pending.pop() {
+        part = resume(snap, above, at, node, part, &mut pending, counts)?;
+    }
+    Ok(part)
+}
+
+/// Begins the nodes from an expression down to its first path, and goes there.
+#[cycle(visits)]
+fn descend<'a>(
+    snap: &'a Snap,
+    above: &mut Items<PathName>,
+    at: &PathName,
+    expr: &'a Expr,
+    pending: &mut Items<Pending<'a>>,
+    counts: &mut Counts<'a>,
+) -> Result<Part, Stop>
+    requires counted { AreCounted counts.old }
+    requires room { length above.old ≤ 32 }
+    requires formed { IsTrue (is_formed expr.now) }
+    ensures walk { (end : Visited Term)
+        → Comes (tree_in snap.now above.old at.now (tree_of expr.now) (visit_of counts.old))
+        (EndsIn snap.now above.old at.now pending.old) end
+        → ComesTo result (EndsIn snap.now above.old at.now pending.new) counts.new end }
+    ensures counted { AreCounted counts.new }
+    ensures above { OnOk result (above.new ≡ above.old) }
+    ensures found { OnOk result (AreFound snap.now counts.old.read.entries
+        → AreFound snap.now counts.new.read.entries) }
+    ensures least { counts.old.nodes ≤ counts.new.nodes }
+    ensures begun { OnOk result
+        (length pending.new + counts.old.nodes + 1 ≤ length pending.old + counts.new.nodes) }
+{
+    let mut expr = expr;
+    'nodes: loop {
+        match outer_of(expr) {
+            Outer::Path(path) => return visit_path(snap, above, true, at, path, counts),
+            Outer::Under(operator, body) => {
+                let node = begin_node(at, counts)?;
+                pending.push(Pending::Under { node, operator })?;
+                expr = body;
+            }
+            Outer::Join(join, first, others) => {
+                let node = begin_node(at, counts)?;
+                pending.push(Pending::First { node, join, others })?;
+                expr = first;
+            }
         }
     }
 }
 
-/// Goes through an operator's module.
+/// Goes on where the module of an operand has come to the pending node that waits for it.
 #[cycle(visits)]
-fn visit_under<'a>(
+fn resume<'a>(
     snap: &'a Snap,
     above: &mut Items<PathName>,
     at: &PathName,
-    operator: Operator<'_>,
-    body: &'a Expr,
+    node: Pending<'a>,
+    part: Part,
+    pending: &mut Items<Pending<'a>>,
     counts: &mut Counts<'a>,
 ) -> Result<Part, Stop>
     requires counted { AreCounted counts.old }
     requires room { length above.old ≤ 32 }
-    requires formed { IsTrue (is_formed body.now) }
-    ensures walk { Walked result (tree_in snap.now above.old at.now
-        (Apply (op_of operator.entry) (tree_of body.now)) (visit_of counts.old)) counts.new }
+    ensures walk { (t : Term) (end : Visited Term) → Means part t
+        → EndsAt snap.now above.old at.now (node.entry ∷ reverse pending.old) t (visit_of counts.old) end
+        → ComesTo result (EndsIn snap.now above.old at.now pending.new) counts.new end }
     ensures counted { AreCounted counts.new }
     ensures above { OnOk result (above.new ≡ above.old) }
     ensures found { OnOk result (AreFound snap.now counts.old.read.entries
         → AreFound snap.now counts.new.read.entries) }
     ensures least { counts.old.nodes ≤ counts.new.nodes }
+    ensures done { OnOk result
+        (length pending.new + counts.old.nodes ≤ length pending.old + counts.new.nodes) }
 {
-    let node = begin_node(at, counts)?;
-    let part = visit_expr(snap, above, at, body, counts)?;
-    Ok(part::apply(counts.alloc(), at, node, operator, part)?)
+    match node {
+        Pending::Under { node, operator } => {
+            Ok(part::apply(counts.alloc(), at, node, operator, part)?)
+        }
+        Pending::First { node, join, others } => {
+            visit_others(snap, above, at, node, join, part, others, pending, counts)
+        }
+        Pending::Right {
+            node,
+            join,
+            left,
+            others,
+        } => {
+            let left = part::combine(counts.alloc(), join, at, node, left, part)?;
+            visit_others(snap, above, at, node, join, left, others, pending, counts)
+        }
+    }
 }
 
-/// Goes through two modules that are joined.
+/// Goes on with the further operands of a join; `left` is what stands to their left.
 #[cycle(visits)]
-fn visit_two<'a>(
-    snap: &'a Snap,
-    above: &mut Items<PathName>,
-    at: &PathName,
-    join: Join,
-    left: &'a Expr,
-    right: &'a Expr,
-    counts: &mut Counts<'a>,
-) -> Result<Part, Stop>
-    requires counted { AreCounted counts.old }
-    requires room { length above.old ≤ 32 }
-    requires formed_left { IsTrue (is_formed left.now) }
-    requires formed_right { IsTrue (is_formed right.now) }
-    ensures walk { Walked result (tree_in snap.now above.old at.now
-        (tree_with join (tree_of left.now) (tree_of right.now)) (visit_of counts.old)) counts.new }
-    ensures counted { AreCounted counts.new }
-    ensures above { OnOk result (above.new ≡ above.old) }
-    ensures found { OnOk result (AreFound snap.now counts.old.read.entries
-        → AreFound snap.now counts.new.read.entries) }
-    ensures more { OnOk result (counts.old.nodes + 1 ≤ counts.new.nodes) }
-    ensures least { counts.old.nodes ≤ counts.new.nodes }
-{
-    let node = begin_node(at, counts)?;
-    let left = visit_expr(snap, above, at, left, counts)?;
-    let right = visit_expr(snap, above, at, right, counts)?;
-    Ok(part::combine(counts.alloc(), join, at, node, left, right)?)
-}
-
-/// Goes through the operands of a merge, of which there are at least two.
-#[cycle(visits)]
-fn visit_operands<'a>(
-    snap: &'a Snap,
-    above: &mut Items<PathName>,
-    at: &PathName,
-    operands: &'a [Expr],
-    counts: &mut Counts<'a>,
-) -> Result<Part, Stop>
-    requires counted { AreCounted counts.old }
-    requires room { length above.old ≤ 32 }
-    requires two { 2 ≤ length operands.now }
-    requires formed { IsTrue (are_formed operands.now) }
-    ensures walk { Walked result (tree_in snap.now above.old at.now
-        (merge_of (map tree_of operands.now)) (visit_of counts.old)) counts.new }
-    ensures counted { AreCounted counts.new }
-    ensures above { OnOk result (above.new ≡ above.old) }
-    ensures found { OnOk result (AreFound snap.now counts.old.read.entries
-        → AreFound snap.now counts.new.read.entries) }
-    ensures least { counts.old.nodes ≤ counts.new.nodes }
-{
-    let [first, second, rest @ ..] = operands else {
-        unreachable!()
-    };
-    let node = counts.node;
-    let two = visit_two(snap, above, at, Join::Merge, first, second, counts)?;
-    visit_more(snap, above, at, node, two, rest, counts)
-}
-
-/// Goes through further operands of the merge at a node of the blueprint `at`; `left` is what
-/// stands to their left.
-#[cycle(visits)]
-fn visit_more<'a>(
+fn visit_others<'a>(
     snap: &'a Snap,
     above: &mut Items<PathName>,
     at: &PathName,
     node: u32,
+    join: Join,
     left: Part,
-    operands: &'a [Expr],
+    others: Operands<'a>,
+    pending: &mut Items<Pending<'a>>,
     counts: &mut Counts<'a>,
 ) -> Result<Part, Stop>
     requires counted { AreCounted counts.old }
     requires room { length above.old ≤ 32 }
-    requires formed { IsTrue (are_formed operands.now) }
-    ensures walk { (x : Tree) (v : Visit) (t : Term) → node ≡ v.node
-        → tree_in snap.now above.old at.now x v ≡ Ok (t, visit_of counts.old) → Means left t
-        → Walked result
-        (tree_in snap.now above.old at.now (with_operands x operands.now) v) counts.new }
+    ensures walk { (t : Term) (end : Visited Term) → Means left t
+        → Comes (others_in (path_in snap.now above.old true at.now) at.now join
+        (site_of at.now node) t others.entry (visit_of counts.old))
+        (EndsIn snap.now above.old at.now pending.old) end
+        → ComesTo result (EndsIn snap.now above.old at.now pending.new) counts.new end }
     ensures counted { AreCounted counts.new }
     ensures above { OnOk result (above.new ≡ above.old) }
     ensures found { OnOk result (AreFound snap.now counts.old.read.entries
         → AreFound snap.now counts.new.read.entries) }
     ensures least { counts.old.nodes ≤ counts.new.nodes }
+    ensures done { OnOk result
+        (length pending.new + counts.old.nodes ≤ length pending.old + counts.new.nodes) }
 {
-    let mut left = left;
-    'operands: for operand in operands {
-        let right = visit_expr(snap, above, at, operand, counts)?;
-        left = part::merge(counts.alloc(), at, node, left, right)?;
-    }
-    Ok(left)
+    let Some((operand, others)) = others.split_first() else {
+        return Ok(left);
+    };
+    pending.push(Pending::Right {
+        node,
+        join,
+        left,
+        others,
+    })?;
+    descend(snap, above, at, operand, pending, counts)
 }

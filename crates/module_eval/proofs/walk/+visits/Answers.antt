@@ -1,16 +1,17 @@
-use Rattle.std.proofs.Common.{◌∙◌, ℕ, suc, true, Ok, ◌-◌, ◌++◌, ◌∷◌, [], map, take, drop, length, sym, ap, subst, refl, arith}
+use Rattle.std.proofs.Common.{◌∙◌, ◌-◌, ◌++◌, ◌∷◌, [], length, length-append, reverse, true, Ok, sym, subst, arith}
 use Rattle.std.proofs.lemmas.Result.{err_from_is_err_and}
-use Rattle.omos_model.specs.Expansion.{begin_path, add_read, here, nested, site_of, source, visit}
-use Rattle.omos_model.specs.Term.{Apply, Merge}
-use Rattle.omos_model.specs.Tree as tree
-use Rattle.omos_model.specs.Tree.{Tree, merge_of, tree_of}
+use Rattle.omos_model.specs.Expansion.{and_then, begin, begin_path, add_read, here, nested, one, site_of, source, visit}
+use Rattle.omos_model.specs.Term.{Apply}
+use Rattle.omos_model.specs.Tree.{tree_of}
 use Rattle.omos_model.specs.declared.refusal.Refusal.TheVariants.{NoEntry}
 use Rattle.module_eval.specs.Counted.{visit_of}
-use Rattle.module_eval.specs.Meant.{Means}
 use Rattle.module_eval.specs.Operators.{op_of}
-use Rattle.module_eval.specs.Walked.{path_in, term_with, tree_in, with_operands}
-use Rattle.module_eval.proofs.Operands.{err_to_left, more_on, one_more, split_at, tree_of-Merge, two_of, two_walked}
-use Rattle.module_eval.proofs.Paths.{barred, err_on_step, err_on_walk, none_at, object_at, opened, refused_inside, source_at, source_none, told, walked_inside}
+use Rattle.module_eval.specs.Pendings.{Comes, EndsAt, EndsIn, others_in}
+use Rattle.module_eval.specs.Walked.{path_in, term_with, tree_in}
+use Rattle.module_eval.proofs.Ended.{after, begun, comes_more, ends_so, not_begun, pushed, refused_so, walked_on}
+use Rattle.module_eval.specs.declared.pending.Pending.{Pending}
+use Rattle.module_eval.specs.declared.pending.Pending.TheVariants.{Under, First, Right}
+use Rattle.module_eval.proofs.Paths.{barred, err_on_step, none_at, object_at, opened, refused_inside, source_at, source_none, told, walked_inside}
 use Rattle.module_eval.proofs.walk.+visits.Goals as goal
 
 -- ---- a path
@@ -29,31 +30,6 @@ visit_path-returns-in-Object-clause-walk t c =
     let found = source_at c.args.snap.now c.args.path.now c.in-Some.found.now _ c.in-Some.ensures is in
     rw (object_at (source c.args.snap.now) above c.args.counted c.args.at.now c.args.path.now (visit_of c.args.counts.now) (32 - length above) _ found)
     (c.visit_object.ensures.walk _ is)
-
--- ---- a merge
-
-pub visit_expr-returns-in-Merge-clause-walk : goal.visit_expr-returns-in-Merge-clause-walk
-visit_expr-returns-in-Merge-clause-walk t c =
-    rw (c.in-Merge.is, tree_of-Merge) (rw c.operands_of.ensures.operands at c.visit_operands.ensures.walk)
-
-pub visit_two-returns-clause-walk : goal.visit_two-returns-clause-walk
-visit_two-returns-clause-walk t c =
-    let at = c.args.at.now in
-    let path = path_in c.args.snap.now c.args.above.now true at in
-    let l = c.in_ok-left.ensures.walk in
-    let r = rw c.in_ok-left.ensures.above at c.in_ok-right.ensures.walk in (
-      term_with c.args.join (site_of at c.in_ok-node.node) l.0 r.0,
-      two_walked c.args.join at path (tree_of c.args.left.now) (tree_of c.args.right.now) (site_of at c.in_ok-node.node) l.0 r.0 _ _ _ _ c.in_ok-node.ensures.walk l.1 r.1,
-      c.in_ok-combine.ensures l.0 r.0 l.2 r.2,
-    )
-
-pub visit_under-returns-clause-walk : goal.visit_under-returns-clause-walk
-visit_under-returns-clause-walk t c =
-    let w = c.in_ok-part.ensures.walk in (
-      Apply (site_of c.args.at.now c.in_ok-node.node) (op_of c.args.operator) w.0,
-      rw (c.in_ok-node.ensures.walk, w.1) refl,
-      c.in_ok-apply.ensures w.0 w.2,
-    )
 
 -- ---- a blueprint
 
@@ -79,70 +55,172 @@ visit_blueprint-returns-in_err-part-clause-walk t c =
     let walked = rw (c.in_ok-push.ensures.ok, c.copy.ensures, c.body.ensures.body) at c.in_err-part.ensures.walk in
     rw (q.1, q.2)
     (refused_inside c.args.snap.now c.as_slice.result.now c.args.above.now c.args.counted c.args.at.now c.args.path.now (visit_of c.args.counts.now) (tree_of c.args.image.now.body) c.requires.there c.as_slice.ensures c.in_default.ensures
-    c.in_err-part.field-0.0 (site_of c.args.at.now c.in_ok-enter.field-0) c.enter.new.counts c.visit_expr.new.counts c.visit_expr.new.counts c.in_ok-enter.ensures.walk walked)
+    c.in_err-part.field-0.0 (site_of c.args.at.now c.in_ok-enter.field-0) c.enter.new.counts c.visit_tree.new.counts c.visit_tree.new.counts c.in_ok-enter.ensures.walk walked)
 
 pub visit_blueprint-returns-clause-walk : goal.visit_blueprint-returns-clause-walk
 visit_blueprint-returns-clause-walk t c =
     let walked = rw (c.in_ok-push.ensures.ok, c.copy.ensures, c.body.ensures.body) at c.in_ok-part.ensures.walk in
     walked_inside c.args.snap.now c.as_slice.result.now c.args.above.now c.args.counted c.args.at.now c.args.path.now (visit_of c.args.counts.now) (tree_of c.args.image.now.body) c.requires.there c.as_slice.ensures c.in_default.ensures
-    c.in_ok-part.part (site_of c.args.at.now c.in_ok-enter.field-0) c.enter.new.counts c.visit_expr.new.counts c.in_ok-enter.ensures.walk walked
+    c.in_ok-part.part (site_of c.args.at.now c.in_ok-enter.field-0) c.enter.new.counts c.visit_tree.new.counts c.in_ok-enter.ensures.walk walked
 
--- ---- further operands
+-- ---- down to the first path
 
-pub visit_operands-returns-in_err-two-clause-walk : goal.visit_operands-returns-in_err-two-clause-walk
-visit_operands-returns-in_err-two-clause-walk t c =
+pub descend-returns-in-Path-clause-walk : goal.descend-returns-in-Path-clause-walk
+descend-returns-in-Path-clause-walk t c end h =
+    let ns = c.args.snap.now in
+    let above = c.args.above.now in
+    let at = c.args.at.now in
+    let inv = c.nodes.invariant in
+    let v = visit_of c.nodes.counts in
+    let ends = EndsIn ns above at c.nodes.pending in
+    let far = subst (λ x. Comes (tree_in ns above at x v) ends end) c.in-Path.ensures (inv.walked end h) in
+    let walk = rw inv.above at c.visit_path.ensures.walk in
+    walked_on ends end c.visit_path.result (path_in ns above true at c.in-Path.path.now v) c.visit_path.new.counts walk far
+
+pub descend-returns-in_err-node-in-Under-clause-walk :
+    goal.descend-returns-in_err-node-in-Under-clause-walk
+descend-returns-in_err-node-in-Under-clause-walk t c end h =
+    let ns = c.args.snap.now in
+    let above = c.args.above.now in
+    let at = c.args.at.now in
+    let v = visit_of c.nodes.counts in
+    let ends = EndsIn ns above at c.nodes.pending in
+    let far = subst (λ x. Comes (tree_in ns above at x v) ends end) c.in-Under.ensures.0 (c.nodes.invariant.walked end h) in
+    let q = err_from_is_err_and c.from_residual.result c.from_residual.ensures.1 in
+    rw (q.1, q.2)
+    (not_begun ends end c.in_err-node-in-Under.field-0.0 at (begin at v) _ c.begin_node.new.counts c.begin_node.new.counts c.in_err-node-in-Under.ensures.walk far)
+
+pub descend-nodes-preserved-in-Under : goal.descend-nodes-preserved-in-Under
+descend-nodes-preserved-in-Under t c =
+    let ns = c.args.snap.now in
+    let above = c.args.above.now in
+    let at = c.args.at.now in
+    let inv = c.nodes.invariant in
+    let v = visit_of c.nodes.counts in
+    let ends = EndsIn ns above at c.nodes.pending in
+    let op = op_of c.in-Under.operator in
+    let x = visit at (path_in ns above true at) (tree_of c.in-Under.body.now) in
+    let s = site_of at c.in_ok-node-in-Under.node in
+    let w = visit_of c.begin_node.new.counts in
+    let node = Under c.in_ok-node-in-Under.node c.in-Under.operator in
+    record {
+      walked = λ end h.
+          let far = subst (λ y. Comes (tree_in ns above at y v) ends end) c.in-Under.ensures.0 (inv.walked end h) in
+          let inside = begun ends end s (begin at v) w (λ s. one (Apply s op) x) c.in_ok-node-in-Under.ensures.walk far in
+          pushed ns above at c.push.new.self c.nodes.pending node c.in_ok-push-in-Under.ensures.ok (x w) end
+          (after ends end (x w) (λ t u. Ok (Apply s op t, u)) inside);
+      formed = c.in-Under.ensures.1;
+      counted = c.in_ok-node-in-Under.ensures.counted;
+      found = rw c.in_ok-node-in-Under.ensures.read inv.found;
+      above = inv.above;
+      least = omega (arith, inv.least, c.in_ok-node-in-Under.ensures.more);
+      begun = rw (c.in_ok-push-in-Under.ensures.ok, length-append c.nodes.pending (node ∷ [])) (omega (arith, inv.begun, c.in_ok-node-in-Under.ensures.more));
+    }
+
+pub descend-returns-in_err-node-in-Join-clause-walk :
+    goal.descend-returns-in_err-node-in-Join-clause-walk
+descend-returns-in_err-node-in-Join-clause-walk t c end h =
+    let ns = c.args.snap.now in
+    let above = c.args.above.now in
+    let at = c.args.at.now in
+    let v = visit_of c.nodes.counts in
+    let path = path_in ns above true at in
+    let ends = EndsIn ns above at c.nodes.pending in
+    let far = subst (λ r. Comes r ends end) (c.in-Join.ensures.0 path at v) (c.nodes.invariant.walked end h) in
+    let q = err_from_is_err_and c.from_residual-in_err-node-in-Join.result c.from_residual-in_err-node-in-Join.ensures.1 in
+    rw (q.1, q.2)
+    (not_begun ends end c.in_err-node-in-Join.field-0.0 at (begin at v) _ c.begin_node-in-Join.new.counts c.begin_node-in-Join.new.counts c.in_err-node-in-Join.ensures.walk far)
+
+pub descend-nodes-preserved : goal.descend-nodes-preserved
+descend-nodes-preserved t c =
+    let ns = c.args.snap.now in
+    let above = c.args.above.now in
+    let at = c.args.at.now in
+    let inv = c.nodes.invariant in
+    let v = visit_of c.nodes.counts in
+    let ends = EndsIn ns above at c.nodes.pending in
+    let join = c.in-Join.join in
+    let more = c.in-Join.others in
+    let path = path_in ns above true at in
+    let x = visit at path (tree_of c.in-Join.first.now) in
+    let s = site_of at c.in_ok-node-in-Join.node in
+    let w = visit_of c.begin_node-in-Join.new.counts in
+    let node = First c.in_ok-node-in-Join.node join more in
+    record {
+      walked = λ end h.
+          let far = subst (λ r. Comes r ends end) (c.in-Join.ensures.0 path at v) (inv.walked end h) in
+          let inside = begun ends end s (begin at v) w (λ s w. and_then (x w) (λ l. others_in path at join s l more)) c.in_ok-node-in-Join.ensures.walk far in
+          pushed ns above at c.push-in-Join.new.self c.nodes.pending node c.in_ok-push-in-Join.ensures.ok (x w) end
+          (after ends end (x w) (λ l. others_in path at join s l more) inside);
+      formed = c.in-Join.ensures.1;
+      counted = c.in_ok-node-in-Join.ensures.counted;
+      found = rw c.in_ok-node-in-Join.ensures.read inv.found;
+      above = inv.above;
+      least = omega (arith, inv.least, c.in_ok-node-in-Join.ensures.more);
+      begun = rw (c.in_ok-push-in-Join.ensures.ok, length-append c.nodes.pending (node ∷ [])) (omega (arith, inv.begun, c.in_ok-node-in-Join.ensures.more));
+    }
+
+-- ---- pending nodes
+
+pub resume-returns-in-First-clause-walk : goal.resume-returns-in-First-clause-walk
+resume-returns-in-First-clause-walk t c u end means h =
     let ns = c.args.snap.now in
     let above = c.args.above.now in
     let at = c.args.at.now in
     let v = visit_of c.args.counts.now in
-    let xs = c.args.operands.now in
-    let x = c.first-item.result in
-    let y = c.second-item.result in
-    let two = two_of xs x y c.in-len2-up.len_at_least c.first-item.is c.second-item.is in
-    let q = err_from_is_err_and c.from_residual.result c.from_residual.ensures.1 in
-    rw (q.1, q.2, ap (λ zs. tree_in ns above at (merge_of (map tree_of zs)) v) two)
-    (err_to_left at (path_in ns above true at) v c.in_err-two.field-0.0 (tree.Merge (tree_of x) (tree_of y)) (map tree_of (drop 2 xs)) c.visit_two.new.counts c.visit_two.new.counts c.in_err-two.ensures.walk)
+    let outside = reverse c.args.pending.now in
+    c.visit_others.ensures.walk u end means
+    (subst (λ (n : Pending). EndsAt ns above at (n ∷ outside) u v end) c.in-First.is h)
 
-pub visit_more-returns-in_err-right-clause-walk : goal.visit_more-returns-in_err-right-clause-walk
-visit_more-returns-in_err-right-clause-walk t c left v u e is means =
+pub resume-returns-in_ok-left-in-Right-clause-walk :
+    goal.resume-returns-in_ok-left-in-Right-clause-walk
+resume-returns-in_ok-left-in-Right-clause-walk t c u end means h =
     let ns = c.args.snap.now in
     let above = c.args.above.now in
     let at = c.args.at.now in
-    let xs = c.args.operands.now in
-    let x = c.operand-item.result in
-    let i = c.operands.operand-index in
-    let inv = c.operands.invariant in
-    let path = path_in ns above true at in
-    let new = c.visit_expr.new.counts in
-    let f = c.in_err-right.field-0.0 in
-    let g = inv.walked left v u e is means in
-    let k = rw inv.above at c.in_err-right.ensures.walk in
-    let q = err_from_is_err_and c.from_residual.result c.from_residual.ensures.1 in
-    rw (q.1, q.2, ap (λ z. tree_in ns above at z v) (split_at left xs i x (omega arith) c.operand-item.is))
-    (err_to_left at path v f (tree.More (with_operands left (take i xs)) (tree_of x)) (map tree_of (drop (suc i) xs)) new new
-    (rw g.1 (err_on_walk f (visit at path (tree_of x) (visit_of c.operands.counts)) (λ w y. Ok (Merge (here at v) g.0 w, y)) new new k)))
+    let v = visit_of c.args.counts.now in
+    let outside = reverse c.args.pending.now in
+    let k = subst (λ (n : Pending). EndsAt ns above at (n ∷ outside) u v end) c.in-Right.is h in
+    c.visit_others-in-Right.ensures.walk (term_with c.in-Right.join (site_of at c.in-Right.node) k.0 u) end
+    (c.in_ok-left-in-Right.ensures k.0 u k.1 means) k.2
 
-pub visit_more-operands-preserved : goal.visit_more-operands-preserved
-visit_more-operands-preserved t c =
+pub visit_others-returns-clause-walk : goal.visit_others-returns-clause-walk
+visit_others-returns-clause-walk t c u end means h =
     let ns = c.args.snap.now in
     let above = c.args.above.now in
     let at = c.args.at.now in
-    let xs = c.args.operands.now in
-    let x = c.operand-item.result in
-    let i = c.operands.operand-index in
-    let inv = c.operands.invariant in
+    let v = visit_of c.args.counts.now in
+    let join = c.args.join in
+    let s = site_of at c.args.node in
     let path = path_in ns above true at in
-    let k = rw inv.above at c.in_ok-right.ensures.walk in
+    let more = c.in-Some.others in
+    let x = tree_of c.in-Some.operand.now in
+    let ends = EndsIn ns above at c.args.pending.now in
+    let node = Right c.args.node join c.args.left more in
+    let far = subst (λ xs. Comes (others_in path at join s u xs v) ends end) c.in-Some.ensures.cases h in
+    let inside = after ends end (visit at path x v) (λ r. others_in path at join s (term_with join s u r) more) far in
+    let waits = comes_more
+    (λ r w. Comes (others_in path at join s (term_with join s u r) more w) ends)
+    (EndsAt ns above at (node ∷ reverse c.args.pending.now)) (visit at path x v) end (λ r w k. (u, means, k)) inside in
+    c.descend.ensures.walk end
+    (pushed ns above at c.push.new.self c.args.pending.now node c.in_ok-push.ensures.ok (visit at path x v) end waits)
+
+-- ---- the whole expression
+
+pub visit_tree-returns-in_err-part-clause-walk : goal.visit_tree-returns-in_err-part-clause-walk
+visit_tree-returns-in_err-part-clause-walk t c =
+    let walk = tree_in c.args.snap.now c.args.above.now c.args.at.now (tree_of c.args.expr.now) (visit_of c.args.counts.now) in
+    let q = err_from_is_err_and c.from_residual.result c.from_residual.ensures.1 in
+    rw (q.1, q.2)
+    (refused_so _ c.in_err-part.field-0.0 walk c.descend.new.counts c.descend.new.counts ((rw c.new-pending.ensures at c.in_err-part.ensures.walk) walk (ends_so walk)))
+
+pub visit_tree-pending-init : goal.visit_tree-pending-init
+visit_tree-pending-init t c =
+    let walk = tree_in c.args.snap.now c.args.above.now c.args.at.now (tree_of c.args.expr.now) (visit_of c.args.counts.now) in
     record {
-      walked = λ left v u e is means.
-          let g = inv.walked left v u e is means in (
-            Merge (here at v) g.0 k.0,
-            ap (λ z. tree_in ns above at z v) (one_more left xs i x (omega arith) c.operand-item.is)
-                ∙ more_on at path v (with_operands left (take i xs)) (tree_of x) g.0 k.0 _ _ g.1 k.1,
-            subst (λ (n : ℕ). Means c.in_ok-left.left (Merge (site_of at n) g.0 k.0)) e (c.in_ok-left.ensures g.0 k.0 g.2 k.2),
-          );
-      counted = c.in_ok-right.ensures.counted;
-      above = c.in_ok-right.ensures.above ∙ inv.above;
-      found = λ h. c.in_ok-right.ensures.found (inv.found h);
-      least = omega (arith, c.in_ok-right.ensures.least);
+      walked = (rw c.new-pending.ensures at c.in_ok-part.ensures.walk) walk (ends_so walk);
+      counted = c.in_ok-part.ensures.counted;
+      above = c.in_ok-part.ensures.above;
+      found = c.in_ok-part.ensures.found;
+      least = c.in_ok-part.ensures.least;
     }

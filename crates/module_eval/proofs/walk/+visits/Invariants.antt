@@ -1,54 +1,67 @@
-use Rattle.std.proofs.Common.{◌≡◌, ◌+◌, ◌-◌, ◌*◌, ◌≤◌, length, Ok, take}
+use Rattle.std.proofs.Common.{◌≡◌, ◌+◌, ◌-◌, ◌*◌, ◌≤◌, length}
+use Rattle.omos_model.specs.Expansion.{Visited}
+use Rattle.omos_model.specs.ImageParts.{is_formed}
+use Rattle.std.specs.Prelude.{IsTrue}
 use Rattle.omos_model.specs.Term.{Term}
-use Rattle.omos_model.specs.Tree.{Tree}
-use Rattle.omos_model.specs.declared.visit.Visit.{Visit}
+use Rattle.omos_model.specs.Tree.{tree_of}
 use Rattle.module_eval.specs.Counted.{AreCounted, visit_of}
 use Rattle.module_eval.specs.Found.{AreFound}
 use Rattle.module_eval.specs.Meant.{Means}
-use Rattle.module_eval.specs.Walked.{tree_in, with_operands}
+use Rattle.module_eval.specs.Pendings.{Comes, EndsIn}
+use Rattle.module_eval.specs.Walked.{tree_in}
 use Rattle.module_eval.proofs.walk.+visits.Given as goal
 
--- a step down opens a blueprint, of which there are at most 32, or else begins a node, of which
--- there are at most 4,096
+-- a step down opens a blueprint, of which there are at most 32
 abbrev pub decreases-visit_path : goal.decreases-visit_path
-decreases-visit_path l =
-    20000 * (32 - length l.above.now) + 3 * (4097 - l.counts.now.nodes) + 1
+decreases-visit_path l = 8 * (32 - length l.above.now) + 1
 
 abbrev pub decreases-visit_blueprint : goal.decreases-visit_blueprint
-decreases-visit_blueprint l =
-    20000 * (32 - length l.above.now) + 3 * (4097 - l.counts.now.nodes)
+decreases-visit_blueprint l = 8 * (32 - length l.above.now)
 
-abbrev pub decreases-visit_expr : goal.decreases-visit_expr
-decreases-visit_expr l =
-    20000 * (32 - length l.above.now) + 3 * (4097 - l.counts.now.nodes) + 2
+abbrev pub decreases-visit_tree : goal.decreases-visit_tree
+decreases-visit_tree l = 8 * (32 - length l.above.now) + 5
 
-abbrev pub decreases-visit_under : goal.decreases-visit_under
-decreases-visit_under l =
-    20000 * (32 - length l.above.now) + 3 * (4097 - l.counts.now.nodes)
+abbrev pub decreases-resume : goal.decreases-resume
+decreases-resume l = 8 * (32 - length l.above.now) + 4
 
-abbrev pub decreases-visit_two : goal.decreases-visit_two
-decreases-visit_two l =
-    20000 * (32 - length l.above.now) + 3 * (4097 - l.counts.now.nodes)
+abbrev pub decreases-visit_others : goal.decreases-visit_others
+decreases-visit_others l = 8 * (32 - length l.above.now) + 3
 
-abbrev pub decreases-visit_operands : goal.decreases-visit_operands
-decreases-visit_operands l =
-    20000 * (32 - length l.above.now) + 3 * (4097 - l.counts.now.nodes) + 1
+abbrev pub decreases-descend : goal.decreases-descend
+decreases-descend l = 8 * (32 - length l.above.now) + 2
 
-abbrev pub decreases-visit_more : goal.decreases-visit_more
-decreases-visit_more l =
-    20000 * (32 - length l.above.now) + 3 * (4097 - l.counts.now.nodes) + 3
+-- a step either begins a node, of which there are at most 4,096, or is done with one
+abbrev pub decreases-visit_tree-pending : goal.decreases-visit_tree-pending
+decreases-visit_tree-pending l = 2 * (4096 - l.counts.nodes) + length l.pending
 
-abbrev pub invariant-visit_more-operands : goal.invariant-visit_more-operands
-invariant-visit_more-operands l =
+abbrev pub invariant-visit_tree-pending : goal.invariant-visit_tree-pending
+invariant-visit_tree-pending l =
     record {
       walked :
-          (x : Tree) (v : Visit) (t : Term) → l.node ≡ v.node
-          → tree_in l.snap l.fn.above l.at x v ≡ Ok (t, visit_of l.fn.counts) → Means l.fn.left t
-          → (u : Term)
-          × (tree_in l.snap l.fn.above l.at (with_operands x (take l.operand-index l.operands)) v ≡ Ok (u, visit_of l.counts))
-          × Means l.left u;
+          (t : Term) × Means l.part t
+          × EndsIn l.snap l.fn.above l.at l.pending t (visit_of l.counts)
+          (tree_in l.snap l.fn.above l.at (tree_of l.expr) (visit_of l.fn.counts));
       counted : AreCounted l.counts;
       above : l.above ≡ l.fn.above;
       found : AreFound l.snap l.fn.counts.read.entries → AreFound l.snap l.counts.read.entries;
       least : l.fn.counts.nodes ≤ l.counts.nodes;
+    }
+
+abbrev pub decreases-descend-nodes : goal.decreases-descend-nodes
+decreases-descend-nodes l = 4096 - l.counts.nodes
+
+abbrev pub invariant-descend-nodes : goal.invariant-descend-nodes
+invariant-descend-nodes l =
+    record {
+      walked : (end : Visited Term)
+          → Comes (tree_in l.snap l.fn.above l.at (tree_of l.fn.expr) (visit_of l.fn.counts))
+          (EndsIn l.snap l.fn.above l.at l.fn.pending) end
+          → Comes (tree_in l.snap l.fn.above l.at (tree_of l.expr) (visit_of l.counts))
+          (EndsIn l.snap l.fn.above l.at l.pending) end;
+      formed : IsTrue (is_formed l.expr);
+      counted : AreCounted l.counts;
+      found : AreFound l.snap l.fn.counts.read.entries → AreFound l.snap l.counts.read.entries;
+      above : l.above ≡ l.fn.above;
+      least : l.fn.counts.nodes ≤ l.counts.nodes;
+      begun : length l.pending + l.fn.counts.nodes ≡ length l.fn.pending + l.counts.nodes;
     }
