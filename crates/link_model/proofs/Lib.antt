@@ -4,3 +4,4 @@ pub mod Alone
 pub mod Frame
 pub mod Footprints
 pub mod Stamps
+pub mod Taken

@@ -1,9 +1,9 @@
 //! A path that was evaluated.
 
-ghost use Rattle.std.specs.Prelude.{◌≡◌, IsSome, Some};
+ghost use Rattle.std.specs.Prelude.{◌≡◌, IfOk, IsSome, Some};
 ghost use Rattle.link_model.specs.Module.{IsModule, found, landing_at, module_of};
 
-use omos_base::{PathName, Row, Shared, SymName};
+use omos_base::{NoMemory, PathName, Row, Shared, SymName};
 use omos_model::{Entry, Landing, Stamped, Start, Target};
 use std::marker::Model;
 
@@ -24,7 +24,7 @@ pub struct Evaluated {
     leaves: Row<Shared<Entry>>,
     landings: Row<Row<Landing>>,
     names: Row<Found>,
-    footprint: Row<Stamped>,
+    footprint: Shared<Row<Stamped>>,
     start: Start,
     lo: u64,
     hi: u64,
@@ -52,7 +52,7 @@ impl Evaluated {
         leaves: Row<Shared<Entry>>,
         landings: Row<Row<Landing>>,
         names: Row<Found>,
-        footprint: Row<Stamped>,
+        footprint: Shared<Row<Stamped>>,
         start: Start,
         lo: u64,
         hi: u64,
@@ -119,7 +119,14 @@ impl Evaluated {
         ensures footprint { result.now ≡ self.now.footprint }
         ensures evaluated { IsModule self.now }
     {
-        self.footprint.as_slice()
+        self.footprint.get().as_slice()
+    }
+
+    /// A second owner of the footprint, of which nothing is copied.
+    pub fn share_footprint(&self) -> Result<Shared<Row<Stamped>>, NoMemory>
+        ensures { IfOk result (λ footprint. footprint ≡ self.now.footprint) }
+    {
+        self.footprint.twin()
     }
 
     /// Where a program of it starts.

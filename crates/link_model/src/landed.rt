@@ -57,19 +57,17 @@ pub(crate) fn leaves(alloc: Global, table: &Table) -> Result<Row<Shared<Entry>>,
     Ok(leaves)
 }
 
-/// The names that are defined, each with what it is.
+/// The names that are defined, each with what it is, in no order that counts.
 pub(crate) fn names(alloc: Global, table: &Table) -> Result<Row<Found>, NoMemory>
     ensures { IfOk result (λ xs. (n : Name) → found xs n ≡ defined_in table.now n) }
 {
-    let names = table.names()?;
-    let mut found = Row::from_vec(Vec::with_capacity(alloc, names.len())?);
-    for name in names.as_slice() {
-        if let Some(target) = table.find(name) {
-            found.push(Found {
-                name: name.copy()?,
-                target,
-            })?;
-        }
+    let definitions = table.definitions();
+    let mut names = Row::from_vec(Vec::with_capacity(alloc, definitions.len())?);
+    for (name, target) in definitions {
+        names.push(Found {
+            name: name.copy()?,
+            target: *target,
+        })?;
     }
-    Ok(found)
+    Ok(names)
 }

@@ -12,11 +12,9 @@ mod layout;
 mod linked;
 mod made;
 mod planned;
-mod share;
 
 pub use evaluated::{Evaluated, Found};
 pub use layout::Layout;
 pub use linked::Linked;
 pub use made::usual_start;
 pub use planned::Planned;
-pub use share::share_entries;

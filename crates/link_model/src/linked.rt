@@ -3,7 +3,7 @@
 ghost use Rattle.std.specs.Prelude.{◌≡◌};
 ghost use Rattle.link_model.specs.Module.{IsLinked, linked_image};
 
-use omos_base::{Bytes, PathName, Row};
+use omos_base::{Bytes, PathName, Row, Shared};
 use omos_model::Stamped;
 use std::marker::Model;
 
@@ -17,7 +17,7 @@ pub struct Linked {
     base: u64,
     pages: u32,
     bytes: Bytes,
-    footprint: Row<Stamped>,
+    footprint: Shared<Row<Stamped>>,
 }
 
 impl Model for Linked {
@@ -41,7 +41,7 @@ impl Linked {
         base: u64,
         pages: u32,
         bytes: Bytes,
-        footprint: Row<Stamped>,
+        footprint: Shared<Row<Stamped>>,
     ) -> Linked
         requires { IsLinked (linked_image path base pages bytes footprint) }
         ensures { result ≡ linked_image path base pages bytes footprint }
@@ -92,6 +92,6 @@ impl Linked {
         ensures footprint { result.now ≡ self.now.footprint }
         ensures linked { IsLinked self.now }
     {
-        self.footprint.as_slice()
+        self.footprint.get().as_slice()
     }
 }

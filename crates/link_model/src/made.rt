@@ -37,7 +37,7 @@ pub fn usual_start(alloc: Global) -> Result<SymName, NoMemory>
 
 impl Evaluated {
     /// The evaluation of a path on the namespace that its footprint lists, by the table of its
-    /// term. It costs a look-up for each name and for each reference that is open.
+    /// term. It costs a look-up for each reference that is open, and an owner for each name.
     pub fn of_table(
         alloc: Global,
         path: PathName,
@@ -53,6 +53,7 @@ impl Evaluated {
         let leaves = landed::leaves(alloc, table)?;
         let landings = landed::landings(alloc, table)?;
         let names = landed::names(alloc, table)?;
+        let footprint = Shared::of(alloc, footprint)?;
         Ok(Evaluated::of(path, leaves, landings, names, footprint, start, lo, hi))
     }
 

@@ -79,6 +79,13 @@ impl Table {
         self.rows.as_slice()
     }
 
+    /// The definitions, in no order that counts.
+    pub fn definitions(&self) -> &IndexMap<SymName, Target>
+        ensures { result.now.entries ≡ self.now.exports }
+    {
+        &self.exports
+    }
+
     /// The names that are defined, in the order of bytes, each once; their bytes are shared.
     pub fn names(&self) -> Result<Row<SymName>, NoMemory>
         ensures held { IfOk result (λ names. AreNames names (defined_in self.now)) }
