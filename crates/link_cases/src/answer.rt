@@ -13,7 +13,7 @@ use std::alloc::Global;
 fn lines_of(alloc: Global, entries: &[Stamped]) -> Result<Bytes> {
     let mut lines = Bytes::new(alloc);
     for entry in entries {
-        lines.push_slice(entry.path.as_bytes())?;
+        lines.push_slice(entry.path.get().as_bytes())?;
         let stamp = entry.stamp;
         lines.push_slice(format!(in alloc; " {stamp}\n")?.as_bytes())?;
     }

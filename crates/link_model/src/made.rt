@@ -66,7 +66,7 @@ impl Evaluated {
         let table = Table::leaf(alloc, 0, entry.twin()?)?;
         let mut footprint = Row::new(alloc);
         footprint.push(Stamped {
-            path: path.copy(),
+            path: Shared::of(alloc, path.copy())?,
             stamp: 1,
             entry,
         })?;

@@ -20,7 +20,7 @@ fn count_below(list: &[Stamped], path: &PathName) -> usize
     let mut high = list.len();
     'halves: while low < high {
         let middle = low + (high - low) / 2;
-        if list[middle].path < *path {
+        if *list[middle].path.get() < *path {
             low = middle + 1;
         } else {
             high = middle;
@@ -39,7 +39,7 @@ fn first_at<'a>(list: &'a [Stamped], path: &PathName) -> Option<&'a Stamped>
         return None;
     }
     let first = &list[0];
-    if *path == first.path {
+    if *path == *first.path.get() {
         Some(first)
     } else {
         None
@@ -55,7 +55,8 @@ fn without_first<'a>(list: &'a [Stamped], path: &PathName) -> &'a [Stamped]
         return list;
     }
     let (_, rest) = list.split_at(1);
-    if *path == list[0].path { rest } else { list }
+    let first = list[0].path.get();
+    if *path == *first { rest } else { list }
 }
 
 /// What stands under the path.
@@ -81,8 +82,8 @@ pub fn with(alloc: Global, list: &[Stamped], stamped: Stamped) -> Result<Row<Sta
     requires { IsInOrder list.now }
     ensures { IfOk result (λ l. l ≡ with_entry list.now stamped) }
 {
-    let (below, rest) = list.split_at(count_below(list, &stamped.path));
-    let above = without_first(rest, &stamped.path);
+    let (below, rest) = list.split_at(count_below(list, stamped.path.get()));
+    let above = without_first(rest, stamped.path.get());
     let mut copy = Row::new(alloc);
     append(&mut copy, below)?;
     copy.push(stamped)?;

@@ -67,11 +67,12 @@ impl Snap {
 
     /// The version with this entry under its path, and all others as they are here.
     ///
-    /// It costs a copy of every path; the blueprints and objects are shared and not copied.
+    /// It costs a second owner of each path and entry, of which nothing is copied.
     pub fn with(&self, path: PathName, stamp: u64, entry: Shared<Entry>) -> Result<Snap, NoMemory>
         ensures { IfOk result (λ s. s
             ≡ with_entry self.now (record { path = path; stamp = stamp; entry = entry })) }
     {
+        let path = Shared::of(self.alloc, path)?;
         let stamped = Stamped { path, stamp, entry };
         let list = order::with(self.alloc, self.list.get().as_slice(), stamped)?;
         Ok(Snap {

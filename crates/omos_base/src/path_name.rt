@@ -100,7 +100,9 @@ fn array_of(bytes: &[u8]) -> ArrayVec<u8, 255>
     requires { length bytes.now ≤ 255 }
     ensures { result.items ≡ bytes.now }
 {
-    ArrayVec::try_from(bytes).unwrap()
+    let mut array = ArrayVec::new();
+    array.try_extend_from_slice(bytes).unwrap();
+    array
 }
 
 impl PathName {

@@ -53,12 +53,12 @@ impl Model for SymName {
     ghost invariant = { λ name. IsSymName name.bytes };
 }
 
-/// Whether a name may have the byte: letters are tried first.
+/// Whether a name may have the byte.
 pub fn is_name_byte(byte: u8) -> bool
     ensures name { IsTrue result ↔ IsNameByte byte }
     ensures test { result ≡ is_name_byte byte }
 {
-    matches!(byte, b'<'..=b'~' | 0x80..=0xff | b'*'..=b':' | b'#'..=b'\'' | b'!')
+    !matches!(byte, 0..=b' ' | b'"' | b'(' | b')' | b';' | 0x7f)
 }
 
 /// The place of the first byte that a name may not have.

@@ -94,10 +94,11 @@ pub enum Entry {
     Blueprint(Image),
 }
 
-/// An entry with its path, and the number of the version that published it.
+/// An entry with its path, and the number of the version that published it. It is small, and a
+/// second one shares the path and the entry.
 #[derive(Drop)]
 pub struct Stamped {
-    pub path: PathName,
+    pub path: Shared<PathName>,
     pub stamp: u64,
     pub entry: Shared<Entry>,
 }
@@ -108,7 +109,7 @@ impl Stamped {
         ensures { IfOk result (λ s. s ≡ self.now) }
     {
         Ok(Stamped {
-            path: self.path.copy(),
+            path: self.path.twin()?,
             stamp: self.stamp,
             entry: self.entry.twin()?,
         })
