@@ -100,9 +100,7 @@ fn array_of(bytes: &[u8]) -> ArrayVec<u8, 255>
     requires { length bytes.now ≤ 255 }
     ensures { result.items ≡ bytes.now }
 {
-    let mut array = ArrayVec::new();
-    array.try_extend_from_slice(bytes).unwrap();
-    array
+    ArrayVec::try_from(bytes).unwrap()
 }
 
 impl PathName {

@@ -5,6 +5,7 @@ mod lines;
 mod linking;
 mod names;
 mod plain;
+mod tables;
 
 use fragment_read::fragment;
 use omos_base::{Bytes, Fault, Row, put_u16, put_u32, put_u64, u16_at, u32_at, u64_at};

@@ -6,7 +6,7 @@ use std::alloc::Global;
 use std::test::Fail;
 
 /// Two exports of these names, each an address that no placing changes.
-fn exports(alloc: Global, first: &str, second: &str) -> Result<Row<Export>, Fail> {
+pub(super) fn exports(alloc: Global, first: &str, second: &str) -> Result<Row<Export>, Fail> {
     let spot = Spot::Fixed { value: 7 };
     let mut row = Row::new(alloc);
     for text in [first, second] {
