@@ -7,8 +7,7 @@ and bench/evaluate.sh.
     bench/links.py TESTS objects COUNT         a merge of plain objects
     bench/links.py TESTS references COUNT      an object with so many relocations
 
-TESTS is the folder tests/, whose objects.py lays objects out. cases.txt links the blueprint, and
-idle.txt, with the same objects published, a path under which nothing is.
+TESTS is the folder tests/, whose objects.py lays objects out.
 """
 
 import importlib.util
@@ -23,22 +22,23 @@ CODE = b"\xe8\0\0\0\0" + b"\x90" * 11  # a call, whose field is at 1
 DEPTH = 60  # operators in one blueprint
 
 
-def write(published, size):
-    """The case that links /m, whose image has so many bytes."""
+def call(distance):
+    """CODE whose call leads so far from the call's end."""
+    return b"\xe8" + distance.to_bytes(4, "little", signed=True) + CODE[5:]
+
+
+def write(published, codes):
+    """The case that links /m, whose image has this code in it, piece by piece, and nothing else."""
+    size = 4096 + -(-len(CODE) * len(codes) // 4096) * 4096
+    code = b"".join(codes).hex(" ")
     text = " & ".join(published)
-    Path("cases.txt").write_text(f"whole | {text} | /m | size {size}\n")
-    Path("idle.txt").write_text(f"idle | {text} | /none | line refused L1 /none 0 /none\n")
+    Path("cases.txt").write_text(f"whole | {text} | /m | size {size} & at 400000 {code}\n")
 
 
 def put(path, names, relas, published):
     name = path.strip("/").replace("/", "-") + ".o"
     Path(name).write_bytes(objects.plain(CODE, 16, names, relas))
     published.append(f"{path} {name}")
-
-
-def pages(count):
-    """The bytes of an image of so many pieces of code."""
-    return 4096 + -(-len(CODE) * count // 4096) * 4096
 
 
 def merge_of(paths):
@@ -51,7 +51,7 @@ def merge(tables):
         put(f"/t/{t}", [(f"n{t:03}x{n:04}", 0) for n in range(2000)], [], published)
     whole = merge_of([f"/t/{t}" for t in range(tables)])
     published.append(f"/m (image (no_entry) {whole})")
-    write(published, pages(tables))
+    write(published, [CODE] * tables)
 
 
 def chain(references, operators):
@@ -78,7 +78,8 @@ def chain(references, operators):
     if names[0] == "y":
         inner = f"(rename y x {inner})"
     published.append(f"/m (image (no_entry) (merge {inner} /x))")
-    write(published, pages(parts + 2))
+    calls = [call((parts + 1 - r) * len(CODE) - 5) for r in range(parts)]
+    write(published, calls + [CODE, CODE])
 
 
 def plain(count):
@@ -87,7 +88,7 @@ def plain(count):
         put(f"/o/{n}", [(f"f{n}", 0)], [(1, 4, 1, -4)], published)
     whole = merge_of([f"/o/{n}" for n in range(count)])
     published.append(f"/m (image (no_entry) {whole})")
-    write(published, pages(count))
+    write(published, [call(-5)] * count)
 
 
 def references(count):
@@ -95,7 +96,7 @@ def references(count):
     put("/o/0", [("f", 0)], [(1, 4, 1, -4)] * count, published)
     put("/o/1", [("g", 0)], [], published)
     published.append("/m (image (no_entry) (merge /o/0 /o/1))")
-    write(published, pages(2))
+    write(published, [call(-5), CODE])
 
 
 KINDS = {"merge": merge, "chain": chain, "objects": plain, "references": references}

@@ -7,22 +7,18 @@
 set -eu
 . "$(dirname "$0")/counts.sh"
 
-inside() { # FUNCTION: the instructions of one of its two calls in a case
+one_call() { # FUNCTION: the instructions of one of its two calls in a case
     local count
-    count=$(collected "--toggle-collect=$1" "$cases")
-    grep -q '^ok' output && [ "$count" -gt 0 ] || {
-        echo "bench: $1 in $count instructions, $(head -c 200 output)" >&2
-        exit 1
-    }
+    count=$(inside "$1") || exit 1
     echo $((count / 2))
 }
 
 costs() { # FUNCTION SHAPE: instructions a byte, and how many times as many twice the input takes
     local half whole
     python3 "$here/bench/texts.py" "$2" 32768
-    half=$(inside "$1") || exit 1
+    half=$(one_call "$1") || exit 1
     python3 "$here/bench/texts.py" "$2" 65536
-    whole=$(inside "$1") || exit 1
+    whole=$(one_call "$1") || exit 1
     echo "$((whole / 65536)) instructions a byte, $(ratio "$half" "$whole") times as many for twice the input"
 }
 
