@@ -8,6 +8,7 @@ mod bytes;
 mod fault;
 mod fields;
 mod limits;
+mod packed;
 mod path_name;
 mod row;
 mod shared;

@@ -13,8 +13,8 @@ ghost use Rattle.omos_base.specs.Fault.{MatchFault};
 ghost use Rattle.omos_base.specs.SymNames.{IsNameByte, IsSymName, IsFirstBarred};
 ghost use Rattle.omos_base.specs.SymNames.{HasNameFault, is_name_byte};
 
-use crate::bytes::Bytes;
 use crate::fault::{Fault, NoMemory};
+use crate::packed::Packed;
 use crate::shared::Shared;
 use std::alloc::Global;
 use std::cmp::Ordering;
@@ -38,7 +38,7 @@ pub enum NameFault {
 /// Names are ordered by their bytes; a proper prefix comes first.
 #[derive(Debug, Drop)]
 pub struct SymName {
-    bytes: Shared<Bytes>,
+    bytes: Shared<Packed>,
 }
 
 impl Model for SymName {
@@ -86,7 +86,7 @@ impl SymName {
         if let Some(place) = first_barred(bytes) {
             return Err(Fault::Refused(NameFault::Byte(place as u32)));
         }
-        let bytes = Bytes::from_slice(alloc, bytes)?;
+        let bytes = Packed::from_slice(alloc, bytes)?;
         Ok(SymName {
             bytes: Shared::of(alloc, bytes)?,
         })
