@@ -7,8 +7,8 @@ use Rattle.omos_outside.specs.Links.{DoorState, GivenBack, link_of}
 use Rattle.omos_outside.specs.Faults.{counted}
 use Rattle.omos_outside.specs.Scripted.{ScriptedSource, ScriptedSink, FailsNext}
 
--- the links that wait, the sources and sinks that were given back; `fails` lists the calls that fail, counted
--- from 1, and `calls` were made
+-- the links that wait, the sources and sinks that were given back; `fails` lists the calls that
+-- fail, counted from 1, and `calls` were made
 pub record ScriptedDoor : Type 0 where
   pub waiting : List (ScriptedSource × ScriptedSink)
   pub sources : List ScriptedSource
@@ -26,9 +26,10 @@ pub record IsFreshPair (link : ScriptedSource × ScriptedSink) : Type 0 where
   pub given : link.0.stream.given ≡ []
   pub held : link.1.held ≡ []
 
--- nothing has happened on the links that wait, and each link that was or will be handed out has room among
--- those given back
-pub record IsDoor (waiting : List (ScriptedSource × ScriptedSink)) (links sources sinks most_sources most_sinks : ℕ) : Type 0 where
+-- nothing has happened on the links that wait, and each link that was or will be handed out has
+-- room among those given back
+pub record IsDoor (waiting : List (ScriptedSource × ScriptedSink))
+    (links sources sinks most_sources most_sinks : ℕ) : Type 0 where
   pub fresh : AllByRecursion IsFreshPair waiting
   pub same : sources ≡ sinks
   pub back : sources ≤ links
@@ -51,7 +52,7 @@ state_of d = record {
   back = Some (given_back d.sources d.sinks);
 }
 
--- it fails at the listed calls alone; else it hands out the next link, and is shut where none is left
+-- it fails at the listed calls alone; else it hands out the next link, or is shut where none waits
 abbrev pub Accepts : ScriptedDoor → Came ScriptedSource ScriptedSink → ScriptedDoor → Type 0
 Accepts d (Link source sink) new = (FailsNext d.fails d.calls → ⊥)
     × (d.waiting ≡ (source, sink) ∷ new.waiting)

@@ -1,5 +1,5 @@
-//! What a run takes in and gives out: sources and sinks of bytes, doors that links come through, and
-//! gates. Sources, sinks and doors count their faults.
+//! What a run takes in and gives out: sources and sinks of bytes, doors that links come through,
+//! and gates. Sources, sinks and doors count their faults.
 //!
 //! The traits say what callers may rely on; the forms in memory are the plain ones and those that
 //! give or take small pieces and fail at listed calls. The forms over real streams and sockets
