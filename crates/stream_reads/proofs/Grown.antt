@@ -1,10 +1,14 @@
--- A file that grew by a read into the room behind it.
-use Rattle.std.proofs.Common.{◌≡◌, ℕ, ◌+◌, ◌≤◌, List, ◌++◌, length, take, drop, Option, ap, ◌∙◌, arith}
-use Rattle.std.proofs.lemmas.List.{length-take-le}
+-- Bytes that grew by a read into the room behind it.
+use Rattle.std.proofs.Common.{◌≡◌, ℕ, ◌+◌, ◌≤◌, List, [], ◌++◌, length, take, drop, Option, ap, sym, ◌∙◌}
+use Rattle.std.proofs.Common.{append_assoc, arith}
+use Rattle.std.proofs.lemmas.List.{append-nil, length-take-le}
 use Rattle.std.proofs.Math.Seq.{drop-append_seam, take-add}
 use Rattle.omos_outside.specs.Stream.{Stream, Gives}
+use Rattle.omos_outside.proofs.Known.{Gives-nil, Gives-then}
+use Rattle.omos_outside.specs.declared.source.Got.{Got}
 use Rattle.omos_outside.specs.declared.source.Got.TheVariants.{Bytes}
 use Rattle.stream_reads.specs.More.{HasMore}
+use Rattle.stream_reads.specs.Exact.{Grew}
 
 -- the bytes are the file with room behind it, whose front was read; then what was not read was cut off
 pub more_by_piece : (before now : Option Stream) (file bytes grown : List ℕ) (room count : ℕ)
@@ -24,4 +28,19 @@ more_by_piece before now file bytes grown room count kept sized is some fits giv
       given = rw added given;
       few = omega arith;
       advances = omega arith;
+    }
+
+pub grew_none : (a : Option Stream) (bytes : List ℕ) → Grew a a bytes bytes
+grew_none a bytes =
+    record { more = []; added = sym (append-nil bytes); given = Gives-nil a }
+
+-- and so did what one more read gave
+pub grew_more : (a b c : Option Stream) (bytes grown more : List ℕ) (room : ℕ) (got : Got)
+    → Grew a b bytes grown → HasMore b c grown more room got → Grew a c bytes more
+grew_more a b c bytes grown more room got first second =
+    let piece : List ℕ = drop (length grown) more in
+    record {
+      more = first.more ++ piece;
+      added = second.added ∙ ap (λ (t : List ℕ). t ++ piece) first.added ∙ append_assoc bytes first.more piece;
+      given = Gives-then a b c first.more piece first.given second.given;
     }
