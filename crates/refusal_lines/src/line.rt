@@ -16,6 +16,7 @@ use std::marker::Model;
 type Text = ArrayVec<u8, 3088>;
 
 /// The line of a refusal, whole with its newline. Contracts see it as its bytes.
+#[derive(Drop)]
 pub struct Line {
     text: Text,
 }
