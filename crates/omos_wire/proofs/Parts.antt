@@ -1,6 +1,6 @@
 -- Placements that are written in pieces.
 use Rattle.std.proofs.Common.{◌≡◌, ℕ, ◌+◌, ◌*◌, ◌≤◌, List, [], ◌∷◌, ◌++◌, length, map, take, drop, Option, refl, ap, sym, ◌∙◌, subst, arith, append_assoc, append-nil, length-append, take-append-drop}
-use Rattle.std.proofs.lemmas.List.{length-map, take-append-le}
+use Rattle.std.proofs.lemmas.List.{length-map, take_all}
 use Rattle.std.proofs.Math.Seq.{take-append-add, take-add}
 use Rattle.std.specs.List.{flat_map}
 use Rattle.std.specs.Io.KnownBytes.{Appends}
@@ -69,3 +69,12 @@ places_frame ps =
 -- it fits where its list does
 pub places_fit : (ps : List Placement) → 5 + 12 * length (map span_of ps) ≤ longest_reply → 5 + 12 * length ps ≤ longest_reply
 places_fit ps fits = omega (arith, length-map ps span_of, fits)
+
+-- the frame of a list of placements, whose head and placements are all there
+pub places_joined : (ps : List Placement) (k : ℕ) (items : List ℕ) → length ps ≤ k
+    → items ≡ (little_bytes 4 (5 + 12 * length ps) ++ 132 ∷ little_bytes 4 (length ps)) ++ bytes_of (take k ps)
+    → items ≡ reply_frame (Places (map span_of ps))
+places_joined ps k items all is =
+    is
+    ∙ ap (λ (s : List Placement). (little_bytes 4 (5 + 12 * length ps) ++ 132 ∷ little_bytes 4 (length ps)) ++ bytes_of s) (take_all k ps all)
+    ∙ sym (places_frame ps)

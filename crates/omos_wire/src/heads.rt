@@ -142,8 +142,9 @@ pub(crate) fn spans_of(placements: &[Placement]) -> ArrayVec<u8, 768>
     bytes
 }
 
-fn put_span(bytes: &mut ArrayVec<u8, 768>, placement: &Placement)
-    requires { array_vec_len bytes.old + 12 ≤ 768 }
+/// Appends a placement's bytes, for which there is room.
+pub(crate) fn put_span<const N: usize>(bytes: &mut ArrayVec<u8, N>, placement: &Placement)
+    requires { array_vec_len bytes.old + 12 ≤ N }
     ensures items { bytes.new.items ≡ bytes.old.items ++ span_bytes (span_of placement.now) }
     ensures len { array_vec_len bytes.new ≡ array_vec_len bytes.old + 12 }
 {

@@ -7,6 +7,7 @@ mod decoder;
 mod fields;
 mod framing;
 mod heads;
+mod joining;
 pub mod laws;
 mod look;
 mod owned_reply;

@@ -1,6 +1,6 @@
 use Rattle.omos_outside.proofs.Written.{wrote_after, part_front}
 use Rattle.omos_wire.proofs.Parts.{places_frame}
-use Rattle.omos_wire.proofs.sending.write_places.Goals as goal
+use Rattle.omos_wire.proofs.sending.write_pieces.Goals as goal
 
 pub returns-in-All-clause-wrote : goal.returns-in-All-clause-wrote
 returns-in-All-clause-wrote g c =
