@@ -1,6 +1,6 @@
 //! What the words of the client's command line ask for.
 
-ghost use Rattle.std.specs.Prelude.{◌≡◌, map, option_map, string_bytes};
+ghost use Rattle.std.specs.Prelude.{◌≡◌, ◌≤◌, IfSome, length, map, option_map, string_bytes};
 ghost use Rattle.omos_client.specs.Errands.{alone, alone_command, asked_by, asked_of, file_command};
 ghost use Rattle.omos_client.specs.Errands.{is_sent, path_command, with_file, with_path};
 
@@ -78,7 +78,8 @@ fn alone_command(word: &str) -> Option<Command>
 
 /// `COMMAND PATH FILE`.
 fn with_file<'a>(word: &str, path: &'a str, file: &'a str) -> Option<Errand<'a>>
-    ensures { option_map asked_of result ≡ with_file word.now path.now file.now }
+    ensures asked { option_map asked_of result ≡ with_file word.now path.now file.now }
+    ensures short { IfSome result (λ e. length (asked_of e).path ≤ 2000) }
 {
     let command = file_command(word)?;
     if is_sent(path) {
@@ -94,7 +95,8 @@ fn with_file<'a>(word: &str, path: &'a str, file: &'a str) -> Option<Errand<'a>>
 
 /// `COMMAND PATH`.
 fn with_path<'a>(word: &str, path: &'a str) -> Option<Errand<'a>>
-    ensures { option_map asked_of result ≡ with_path word.now path.now }
+    ensures asked { option_map asked_of result ≡ with_path word.now path.now }
+    ensures short { IfSome result (λ e. length (asked_of e).path ≤ 2000) }
 {
     let command = path_command(word)?;
     if is_sent(path) {
@@ -110,7 +112,8 @@ fn with_path<'a>(word: &str, path: &'a str) -> Option<Errand<'a>>
 
 /// `COMMAND`.
 fn alone<'a>(word: &str) -> Option<Errand<'a>>
-    ensures { option_map asked_of result ≡ alone word.now }
+    ensures asked { option_map asked_of result ≡ alone word.now }
+    ensures short { IfSome result (λ e. length (asked_of e).path ≤ 2000) }
 {
     let command = alone_command(word)?;
     Some(Errand {
@@ -122,7 +125,8 @@ fn alone<'a>(word: &str) -> Option<Errand<'a>>
 
 /// What the words ask for, whose first is the server's socket. None where they ask for nothing.
 pub fn errand_of(words: &[String]) -> Option<Errand<'_>>
-    ensures { option_map asked_of result ≡ asked_by (map string_bytes words.now) }
+    ensures asked { option_map asked_of result ≡ asked_by (map string_bytes words.now) }
+    ensures short { IfSome result (λ e. length (asked_of e).path ≤ 2000) }
 {
     if words.len() == 4 {
         with_file(&words[1], &words[2], &words[3])

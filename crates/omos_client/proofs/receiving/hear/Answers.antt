@@ -7,8 +7,7 @@ use Rattle.omos_client.proofs.receiving.hear.Goals as goal
 pub returns-in-Ok-receive_bye-clause-heard : goal.returns-in-Ok-receive_bye-clause-heard
 returns-in-Ok-receive_bye-clause-heard g c =
     let one = c.in-Ok.ensures.received in
-    let two = c.in-Ok-receive_bye.ensures.received in
-    (
+    let two = c.in-Ok-receive_bye.ensures.received in (
       one.0 ++ two.0,
       Gives-then _ _ _ one.0 two.0 one.1 two.1,
       (

@@ -9,8 +9,7 @@ returns-then-size-eq0-clause-received g c =
     let bytes : List ℕ = c.read_exactly.new.bytes.items in
     let filled = rw c.new-frame.ensures.items at c.in_default.ensures.filled in
     let size : c.u32_at-size.result ≡ number_at 4 0 bytes =
-    c.u32_at-size.ensures ∙ ap (number_at 4 0) c.deref.ensures.value in
-    (
+    c.u32_at-size.ensures ∙ ap (number_at 4 0) c.deref.ensures.value in (
       bytes,
       subst (Gives (g.S.Source.told c.args.source.now) (g.S.Source.told c.read_exactly.new.source)) (sym filled.0.added) filled.0.given,
       no_length bytes filled.1 (λ some few. omega (arith, size, some, few, c.then-size-eq0.either)),
