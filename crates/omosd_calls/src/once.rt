@@ -13,9 +13,8 @@ use crate::ending::Ending;
 use crate::lone::lone_image;
 use crate::reading::{Unread, read_file};
 use crate::words::is_once;
-use crate::writing::write_all;
 use omos_base::Fault;
-use omos_outside::{Sink, Source};
+use omos_outside::{Sent, Sink, Source, write_all};
 use std::alloc::Global;
 
 /// Writes the line that says why a file has no image.
@@ -29,8 +28,8 @@ fn write_line<K: Sink>(alloc: Global, cause: &Cause, sink: &mut K) -> Ending
         return Ending::NoMemory;
     };
     match write_all(sink, line.as_slice()) {
-        Ok(()) => Ending::Refused,
-        Err(_) => Ending::SinkFailed,
+        Sent::All => Ending::Refused,
+        Sent::Failed => Ending::SinkFailed,
     }
 }
 
@@ -43,8 +42,8 @@ fn answer_file<K: Sink>(alloc: Global, file: &[u8], sink: &mut K) -> Ending
 {
     match lone_image(alloc, file) {
         Ok(image) => match write_all(sink, image.as_slice()) {
-            Ok(()) => Ending::Done,
-            Err(_) => Ending::SinkFailed,
+            Sent::All => Ending::Done,
+            Sent::Failed => Ending::SinkFailed,
         },
         Err(Fault::Refused(cause)) => write_line(alloc, &cause, sink),
         Err(Fault::NoMemory) => Ending::NoMemory,
