@@ -5,7 +5,7 @@ use crate::publish::path_of;
 use crate::text::text_at;
 use anyhow::Result;
 use name_tree::Snap;
-use omos_base::Bytes;
+use omos_base::{Bytes, Row};
 use omos_model::Stamped;
 use std::alloc::Global;
 
@@ -20,10 +20,31 @@ fn lines_of(alloc: Global, entries: &[Stamped]) -> Result<Bytes> {
     Ok(lines)
 }
 
-/// The link of `PATH`, the canonical text of `text PATH`, or the entries by `list`.
+/// A line for each branch of the version's tree, ` 32 33`: the counts of entries of its pages.
+fn count_lines(alloc: Global, branches: &[Row<u32>]) -> Result<Bytes> {
+    let mut lines = Bytes::new(alloc);
+    for pages in branches {
+        push_counts(&mut lines, alloc, pages.as_slice())?;
+    }
+    Ok(lines)
+}
+
+fn push_counts(lines: &mut Bytes, alloc: Global, counts: &[u32]) -> Result<()> {
+    for count in counts {
+        lines.push_slice(format!(in alloc; " {count}")?.as_bytes())?;
+    }
+    lines.push_slice(b"\n")?;
+    Ok(())
+}
+
+/// The link of `PATH`, the canonical text of `text PATH`, the entries by `list`, or the counts of
+/// entries by `pages`.
 pub(crate) fn answer_of(alloc: Global, snap: &Snap, asked: &str) -> Result<Bytes> {
     if asked == "list" {
-        return lines_of(alloc, snap.list());
+        return lines_of(alloc, snap.list()?.as_slice());
+    }
+    if asked == "pages" {
+        return count_lines(alloc, snap.pages()?.as_slice());
     }
     match asked.strip_prefix("text ") {
         Some(path) => text_at(alloc, snap, &path_of(path)?),

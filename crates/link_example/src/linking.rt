@@ -26,7 +26,7 @@ fn version_of(
     second: (PathName, Shared<Entry>),
     third: (PathName, Shared<Entry>),
 ) -> Result<Snap, NoMemory>
-    ensures { IfOk result (λ snap. snap ≡ namespace_of first second third) }
+    ensures { IfOk result (λ snap. snap.entries ≡ namespace_of first second third) }
 {
     let none = Snap::empty(alloc)?;
     let one = none.with(first.0, 1, first.1)?;
@@ -36,8 +36,8 @@ fn version_of(
 
 /// The image of a path on a version of the namespace.
 fn linked(alloc: Global, snap: &Snap, path: &PathName) -> Result<Linked, Fault<Refusal>>
-    ensures { MatchFault result (λ x. answer snap.now path.now 4194304 ≡ Ok x.bytes)
-        (λ x. answer snap.now path.now 4194304 ≡ Err x) }
+    ensures { MatchFault result (λ x. answer snap.now.entries path.now 4194304 ≡ Ok x.bytes)
+        (λ x. answer snap.now.entries path.now 4194304 ≡ Err x) }
 {
     laws::footprints_decide();
     let planned = plan(alloc, snap, path)?;

@@ -5,3 +5,5 @@ pub mod Frame
 pub mod Footprints
 pub mod Stamps
 pub mod Taken
+pub mod Ranges
+pub mod Short

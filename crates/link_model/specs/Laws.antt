@@ -1,5 +1,5 @@
 -- Laws of evaluated modules.
-use Rattle.std.specs.Prelude.{◌≡◌, ◌≤◌, ℕ, List, Option, Some, length}
+use Rattle.std.specs.Prelude.{◌≡◌, ◌≤◌, ℕ, List, Option, Some, Ok, length}
 use Rattle.std.specs.List.{AllByRecursion, sum_by}
 use Rattle.std.specs.Option.{option_map}
 use Rattle.omos_model.specs.Names.{Name}
@@ -19,6 +19,12 @@ pub record IsBounded (m : Module) : Type 0 where
 
 abbrev pub BoundsLaw : Type 0
 BoundsLaw = (m : Module) → IsModule m → IsBounded m
+
+-- an image's file has at most 8,388,608 bytes
+abbrev pub SizeLaw : Type 0
+SizeLaw =
+    (ns : Space) (path : Name) (base : ℕ) (bytes : List ℕ) → answer ns path base ≡ Ok bytes
+    → length bytes ≤ 8388608
 
 -- the plan of a module is that of its path on the namespace that its footprint lists
 abbrev pub OwnPlanLaw : Type 0

@@ -1,6 +1,6 @@
 -- Evaluated modules, their layout and their images, as values of the types that keep them.
-use Rattle.std.specs.Prelude.{◌≡◌, ℕ, List, [], ◌∷◌, map, Option, Some, None, Result, Ok, slice_get}
-use Rattle.std.specs.Prelude.{unwrap_or}
+use Rattle.std.specs.Prelude.{◌≡◌, ℕ, ◌+◌, ◌*◌, ◌^◌, ◌≤◌, List, [], ◌∷◌, map, Option, Some, None}
+use Rattle.std.specs.Prelude.{Result, Ok, slice_get, unwrap_or}
 use Rattle.std.specs.List.{find, zip}
 use Rattle.std.specs.Option.{option_map}
 use Rattle.omos_model.specs.Names.{Name, same_name}
@@ -142,11 +142,17 @@ abbrev pub linked_image : Name → ℕ → ℕ → List ℕ → List Stamped →
 linked_image path base pages bytes footprint =
     record { path = path; base = base; pages = pages; bytes = bytes; footprint = footprint }
 
--- the bytes are the answer on the namespace that the footprint lists, the pages the plan's, and the
--- footprint the path's
+-- the image of a plan at a base
+abbrev pub linked_of : Ready → ℕ → List ℕ → LinkedImage
+linked_of r base bytes =
+    linked_image r.evaluated.path base r.layout.pages bytes r.evaluated.footprint
+
+-- the bytes are the answer on the namespace that the footprint lists, the pages the plan's, which
+-- end in user space, and the footprint is the path's
 pub record IsLinked (x : LinkedImage) : Type 0 where
   pub plan : Plan
   pub planned : plan_of x.footprint x.path ≡ Ok plan
   pub pages : x.pages ≡ plan.pages
+  pub within : x.base + 4096 * x.pages ≤ 2 ^ 47
   pub answered : answer x.footprint x.path x.base ≡ Ok x.bytes
   pub listed : footprint x.footprint x.path ≡ Some x.footprint

@@ -1,6 +1,7 @@
 //! A path that was evaluated.
 
-ghost use Rattle.std.specs.Prelude.{◌≡◌, IfOk, IsSome, Some};
+ghost use Rattle.std.specs.Prelude.{◌≡◌, IfOk, IsSome, IsTrue, Some};
+ghost use Rattle.omos_model.specs.ImageParts.{is_range};
 ghost use Rattle.link_model.specs.Module.{IsModule, found, landing_at, module_of};
 
 use omos_base::{NoMemory, PathName, Row, Shared, SymName};
@@ -138,15 +139,32 @@ impl Evaluated {
 
     /// The least address at which it may be placed.
     pub fn lo(&self) -> u64
-        ensures { result ≡ self.now.lo }
+        ensures lo { result ≡ self.now.lo }
+        ensures range { IsTrue (is_range self.now.lo self.now.hi) }
     {
+        range_is_lawful(self);
         self.lo
     }
 
     /// The address at which it has to end at the latest.
     pub fn hi(&self) -> u64
-        ensures { result ≡ self.now.hi }
+        ensures hi { result ≡ self.now.hi }
+        ensures range { IsTrue (is_range self.now.lo self.now.hi) }
     {
+        range_is_lawful(self);
         self.hi
+    }
+}
+
+/// A module's range is that of its path's entry, which was read first. Nothing is copied.
+fn range_is_lawful(evaluated: &Evaluated)
+    ensures { IsTrue (is_range evaluated.now.lo evaluated.now.hi) }
+{
+    let _path = evaluated.path();
+    match evaluated.footprint()[0].entry.get() {
+        Entry::Object(_) => {}
+        Entry::Blueprint(image) => {
+            let _lo = image.lo();
+        }
     }
 }

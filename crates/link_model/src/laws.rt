@@ -1,11 +1,16 @@
 //! Laws of evaluated modules, each the contract of a function that does nothing.
 
-ghost use Rattle.link_model.specs.Laws.{BoundsLaw, OwnPlanLaw, FrameLaw, OwnFrameLaw};
+ghost use Rattle.link_model.specs.Laws.{BoundsLaw, SizeLaw, OwnPlanLaw, FrameLaw, OwnFrameLaw};
 ghost use Rattle.link_model.specs.Laws.{StampLaw, CurrentLaw};
 
 /// A module has at most 256 leaves, and at most 524,288 references.
 pub fn modules_are_bounded()
     ensures { BoundsLaw }
+{}
+
+/// An image's file has at most 8,388,608 bytes.
+pub fn images_are_short()
+    ensures { SizeLaw }
 {}
 
 /// A module's plan is that of its path on the namespace that its footprint lists.

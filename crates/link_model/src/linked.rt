@@ -1,16 +1,18 @@
 //! A linked image.
 
-ghost use Rattle.std.specs.Prelude.{◌≡◌};
-ghost use Rattle.link_model.specs.Module.{IsLinked, linked_image};
+ghost use Rattle.std.specs.Prelude.{◌≡◌, ◌+◌, ◌*◌, ◌^◌, ◌≤◌, IfOk, Ok, length};
+ghost use Rattle.link_model.specs.Answer.{answer};
+ghost use Rattle.link_model.specs.Module.{IsLinked, linked_of};
 
-use omos_base::{Bytes, PathName, Row, Shared};
+use crate::planned::Planned;
+use omos_base::{Bytes, NoMemory, PathName, Row, Shared};
 use omos_model::Stamped;
 use std::marker::Model;
 
 /// The image of a path at a base.
 ///
 /// It keeps that its bytes are the answer of uncached evaluation on the namespace that its
-/// footprint lists.
+/// footprint lists, and that its pages end at 2^47 at most.
 #[derive(Drop)]
 pub struct Linked {
     path: PathName,
@@ -35,24 +37,20 @@ impl Model for Linked {
 }
 
 impl Linked {
-    /// The image of a path at a base. It takes no memory.
-    pub fn of(
-        path: PathName,
-        base: u64,
-        pages: u32,
-        bytes: Bytes,
-        footprint: Shared<Row<Stamped>>,
-    ) -> Linked
-        requires { IsLinked (linked_image path base pages bytes footprint) }
-        ensures { result ≡ linked_image path base pages bytes footprint }
+    /// The image of a plan at a base. It shares the plan's footprint.
+    pub fn of(planned: &Planned, base: u64, bytes: Bytes) -> Result<Linked, NoMemory>
+        requires answered { answer planned.now.evaluated.footprint planned.now.evaluated.path base ≡ Ok bytes }
+        requires within { base + 4096 * planned.now.layout.pages ≤ 2 ^ 47 }
+        ensures { IfOk result (λ l. l ≡ linked_of planned.now base bytes) }
     {
-        Linked {
-            path,
+        let module = planned.module();
+        Ok(Linked {
+            path: module.path().copy(),
             base,
-            pages,
+            pages: planned.layout().pages(),
             bytes,
-            footprint,
-        }
+            footprint: module.share_footprint()?,
+        })
     }
 
     /// The path.
@@ -79,9 +77,10 @@ impl Linked {
         self.pages
     }
 
-    /// The file: a static executable.
+    /// The file: a static executable of at most 8,388,608 bytes.
     pub fn bytes(&self) -> &[u8]
         ensures bytes { result.now ≡ self.now.bytes }
+        ensures short { length self.now.bytes ≤ 8388608 }
         ensures linked { IsLinked self.now }
     {
         self.bytes.as_slice()

@@ -1,6 +1,7 @@
 //! A module that is ready to be placed.
 
-ghost use Rattle.std.specs.Prelude.{◌≡◌};
+ghost use Rattle.std.specs.Prelude.{◌≡◌, ◌≤◌, IsTrue};
+ghost use Rattle.omos_model.specs.ImageParts.{is_range};
 ghost use Rattle.link_model.specs.Module.{IsReady, ready_of};
 
 use crate::evaluated::Evaluated;
@@ -64,23 +65,27 @@ impl Planned {
         self.evaluated.path()
     }
 
-    /// How many pages of 4,096 bytes it needs, at least one.
+    /// How many pages of 4,096 bytes it needs: 1 to 2,047.
     pub fn pages(&self) -> u32
-        ensures { result ≡ self.now.layout.pages }
+        ensures pages { result ≡ self.now.layout.pages }
+        ensures some { 1 ≤ self.now.layout.pages }
+        ensures few { self.now.layout.pages ≤ 2047 }
     {
         self.layout.pages()
     }
 
     /// The least address at which it may be placed.
     pub fn lo(&self) -> u64
-        ensures { result ≡ self.now.evaluated.lo }
+        ensures lo { result ≡ self.now.evaluated.lo }
+        ensures range { IsTrue (is_range self.now.evaluated.lo self.now.evaluated.hi) }
     {
         self.evaluated.lo()
     }
 
     /// The address at which it has to end at the latest.
     pub fn hi(&self) -> u64
-        ensures { result ≡ self.now.evaluated.hi }
+        ensures hi { result ≡ self.now.evaluated.hi }
+        ensures range { IsTrue (is_range self.now.evaluated.lo self.now.evaluated.hi) }
     {
         self.evaluated.hi()
     }

@@ -15,7 +15,7 @@ use std::alloc::Global;
 ///
 /// It costs the evaluation of the path and the layout of its module.
 pub fn plan(alloc: Global, snap: &Snap, path: &PathName) -> Result<Planned, Fault<Refusal>>
-    ensures planned { Plans result snap.now path.now }
+    ensures planned { Plans result snap.now.entries path.now }
 {
     laws::modules_have_their_plan();
     let module = evaluate(alloc, snap, path)?;

@@ -35,8 +35,8 @@ fn expand<'a>(
 ) -> Result<Part, Stop>
     requires first { visit_of counts.old ≡ first_visit }
     requires counted { AreCounted counts.old }
-    ensures walk { Walked result (expansion snap.now path.now) counts.new }
-    ensures found { OnOk result (AreFound snap.now counts.new.read.entries) }
+    ensures walk { Walked result (expansion snap.now.entries path.now) counts.new }
+    ensures found { OnOk result (AreFound snap.now.entries counts.new.read.entries) }
 {
     let mut above = Items::new(alloc);
     visit_path(snap, &mut above, false, path, path, counts)
@@ -50,9 +50,9 @@ fn finish(
     table: &Table,
     read: &IndexMap<ReadPath, &Stamped>,
 ) -> Result<Evaluated, NoMemory>
-    requires built { IsBuiltOn snap.now path.now table.now (keys_of read.now.entries) }
-    requires found { AreFound snap.now read.now.entries }
-    ensures { IfOk result (IsEvaluatedOn snap.now path.now) }
+    requires built { IsBuiltOn snap.now.entries path.now table.now (keys_of read.now.entries) }
+    requires found { AreFound snap.now.entries read.now.entries }
+    ensures { IfOk result (IsEvaluatedOn snap.now.entries path.now) }
 {
     let Some(own) = snap.get(path) else {
         unreachable!()
@@ -74,8 +74,8 @@ fn finish(
 /// its calls go only as deep as blueprints stand inside one another: six calls at each of at most 32.
 pub fn evaluate(alloc: Global, snap: &Snap, path: &PathName) -> Result<Evaluated, Fault<Refusal>>
     ensures { MatchFault result
-        (IsEvaluatedOn snap.now path.now)
-        (λ x. refusal_of (expansion snap.now path.now) ≡ Some x) }
+        (IsEvaluatedOn snap.now.entries path.now)
+        (λ x. refusal_of (expansion snap.now.entries path.now) ≡ Some x) }
 {
     let mut counts = Counts::new(alloc);
     match expand(alloc, snap, path, &mut counts) {

@@ -41,11 +41,11 @@ pub fn visit_path<'a>(
     requires counted { AreCounted counts.old }
     requires room { length above.old ≤ 32 }
     ensures walk { Walked result
-        (path_in snap.now above.old counted at.now path.now (visit_of counts.old)) counts.new }
+        (path_in snap.now.entries above.old counted at.now path.now (visit_of counts.old)) counts.new }
     ensures counted { AreCounted counts.new }
     ensures above { OnOk result (above.new ≡ above.old) }
-    ensures found { OnOk result (AreFound snap.now counts.old.read.entries
-        → AreFound snap.now counts.new.read.entries) }
+    ensures found { OnOk result (AreFound snap.now.entries counts.old.read.entries
+        → AreFound snap.now.entries counts.new.read.entries) }
     ensures least { counts.old.nodes ≤ counts.new.nodes }
     ensures more { counted ≡ true → OnOk result (counts.old.nodes + 1 ≤ counts.new.nodes) }
 {
@@ -74,14 +74,14 @@ fn visit_blueprint<'a>(
 ) -> Result<Part, Stop>
     requires counted { AreCounted counts.old }
     requires room { length above.old ≤ 32 }
-    requires entry { look_up snap.now path.now ≡ Some found.now }
-    requires there { source snap.now path.now ≡ Some (Blueprint (tree_of image.now.body)) }
+    requires entry { look_up snap.now.entries path.now ≡ Some found.now }
+    requires there { source snap.now.entries path.now ≡ Some (Blueprint (tree_of image.now.body)) }
     ensures walk { Walked result
-        (path_in snap.now above.old counted at.now path.now (visit_of counts.old)) counts.new }
+        (path_in snap.now.entries above.old counted at.now path.now (visit_of counts.old)) counts.new }
     ensures counted { AreCounted counts.new }
     ensures above { OnOk result (above.new ≡ above.old) }
-    ensures found { OnOk result (AreFound snap.now counts.old.read.entries
-        → AreFound snap.now counts.new.read.entries) }
+    ensures found { OnOk result (AreFound snap.now.entries counts.old.read.entries
+        → AreFound snap.now.entries counts.new.read.entries) }
     ensures least { counts.old.nodes ≤ counts.new.nodes }
     ensures more { counted ≡ true → OnOk result (counts.old.nodes + 1 ≤ counts.new.nodes) }
 {
@@ -112,11 +112,11 @@ fn visit_tree<'a>(
     requires room { length above.old ≤ 32 }
     requires formed { IsTrue (is_formed expr.now) }
     ensures walk { Walked result
-        (tree_in snap.now above.old at.now (tree_of expr.now) (visit_of counts.old)) counts.new }
+        (tree_in snap.now.entries above.old at.now (tree_of expr.now) (visit_of counts.old)) counts.new }
     ensures counted { AreCounted counts.new }
     ensures above { OnOk result (above.new ≡ above.old) }
-    ensures found { OnOk result (AreFound snap.now counts.old.read.entries
-        → AreFound snap.now counts.new.read.entries) }
+    ensures found { OnOk result (AreFound snap.now.entries counts.old.read.entries
+        → AreFound snap.now.entries counts.new.read.entries) }
     ensures least { counts.old.nodes ≤ counts.new.nodes }
 {
     let mut pending = Items::new(counts.alloc());
@@ -141,13 +141,13 @@ fn descend<'a>(
     requires room { length above.old ≤ 32 }
     requires formed { IsTrue (is_formed expr.now) }
     ensures walk { (end : Visited Term)
-        → Comes (tree_in snap.now above.old at.now (tree_of expr.now) (visit_of counts.old))
-        (EndsIn snap.now above.old at.now pending.old) end
-        → ComesTo result (EndsIn snap.now above.old at.now pending.new) counts.new end }
+        → Comes (tree_in snap.now.entries above.old at.now (tree_of expr.now) (visit_of counts.old))
+        (EndsIn snap.now.entries above.old at.now pending.old) end
+        → ComesTo result (EndsIn snap.now.entries above.old at.now pending.new) counts.new end }
     ensures counted { AreCounted counts.new }
     ensures above { OnOk result (above.new ≡ above.old) }
-    ensures found { OnOk result (AreFound snap.now counts.old.read.entries
-        → AreFound snap.now counts.new.read.entries) }
+    ensures found { OnOk result (AreFound snap.now.entries counts.old.read.entries
+        → AreFound snap.now.entries counts.new.read.entries) }
     ensures least { counts.old.nodes ≤ counts.new.nodes }
     ensures begun { OnOk result
         (length pending.new + counts.old.nodes + 1 ≤ length pending.old + counts.new.nodes) }
@@ -184,12 +184,12 @@ fn resume<'a>(
     requires counted { AreCounted counts.old }
     requires room { length above.old ≤ 32 }
     ensures walk { (t : Term) (end : Visited Term) → Means part t
-        → EndsAt snap.now above.old at.now (node.entry ∷ reverse pending.old) t (visit_of counts.old) end
-        → ComesTo result (EndsIn snap.now above.old at.now pending.new) counts.new end }
+        → EndsAt snap.now.entries above.old at.now (node.entry ∷ reverse pending.old) t (visit_of counts.old) end
+        → ComesTo result (EndsIn snap.now.entries above.old at.now pending.new) counts.new end }
     ensures counted { AreCounted counts.new }
     ensures above { OnOk result (above.new ≡ above.old) }
-    ensures found { OnOk result (AreFound snap.now counts.old.read.entries
-        → AreFound snap.now counts.new.read.entries) }
+    ensures found { OnOk result (AreFound snap.now.entries counts.old.read.entries
+        → AreFound snap.now.entries counts.new.read.entries) }
     ensures least { counts.old.nodes ≤ counts.new.nodes }
     ensures done { OnOk result
         (length pending.new + counts.old.nodes ≤ length pending.old + counts.new.nodes) }
@@ -229,14 +229,14 @@ fn visit_others<'a>(
     requires counted { AreCounted counts.old }
     requires room { length above.old ≤ 32 }
     ensures walk { (t : Term) (end : Visited Term) → Means left t
-        → Comes (others_in (path_in snap.now above.old true at.now) at.now join
+        → Comes (others_in (path_in snap.now.entries above.old true at.now) at.now join
         (site_of at.now node) t others.entry (visit_of counts.old))
-        (EndsIn snap.now above.old at.now pending.old) end
-        → ComesTo result (EndsIn snap.now above.old at.now pending.new) counts.new end }
+        (EndsIn snap.now.entries above.old at.now pending.old) end
+        → ComesTo result (EndsIn snap.now.entries above.old at.now pending.new) counts.new end }
     ensures counted { AreCounted counts.new }
     ensures above { OnOk result (above.new ≡ above.old) }
-    ensures found { OnOk result (AreFound snap.now counts.old.read.entries
-        → AreFound snap.now counts.new.read.entries) }
+    ensures found { OnOk result (AreFound snap.now.entries counts.old.read.entries
+        → AreFound snap.now.entries counts.new.read.entries) }
     ensures least { counts.old.nodes ≤ counts.new.nodes }
     ensures done { OnOk result
         (length pending.new + counts.old.nodes ≤ length pending.old + counts.new.nodes) }

@@ -15,6 +15,7 @@ pub mod FirstRefusal
 pub mod Namespace
 pub mod Expansion
 pub mod Footprint
+pub mod Places
 pub mod Laws
 pub mod Examples
 pub mod ObjectExamples

@@ -9,6 +9,7 @@ mod expr;
 mod fragment;
 pub mod laws;
 mod mark;
+mod placement;
 mod refusal;
 mod visit;
 
@@ -16,5 +17,6 @@ pub use entry::{Entry, Image, Stamped, Start};
 pub use expr::Expr;
 pub use fragment::{Aim, Export, Fixup, Fragment, FragmentFault, Group, Kind, Piece, Spot};
 pub use mark::{Landing, Mark, MarkRow, Target};
+pub use placement::{Place, Placement};
 pub use refusal::{BpFault, ObjectFault, Refusal, Site};
 pub use visit::Visit;

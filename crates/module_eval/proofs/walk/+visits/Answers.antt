@@ -20,26 +20,26 @@ pub visit_path-returns-in_default-clause-walk : goal.visit_path-returns-in_defau
 visit_path-returns-in_default-clause-walk t c =
     let above = c.args.above.now in
     told c.no_entry.result (NoEntry (here c.args.at.now (visit_of c.args.counts.now)) c.args.path.now) _ c.args.counts.now c.no_entry.ensures
-    (none_at (source c.args.snap.now) above c.args.counted c.args.at.now c.args.path.now (visit_of c.args.counts.now) (32 - length above)
-    (source_none c.args.snap.now c.args.path.now c.in_default.ensures))
+    (none_at (source c.args.snap.now.entries) above c.args.counted c.args.at.now c.args.path.now (visit_of c.args.counts.now) (32 - length above)
+    (source_none c.args.snap.now.entries c.args.path.now c.in_default.ensures))
 
 pub visit_path-returns-in-Object-clause-walk : goal.visit_path-returns-in-Object-clause-walk
 visit_path-returns-in-Object-clause-walk t c =
     let above = c.args.above.now in
     let is = sym c.get-2.ensures ∙ c.in-Object.is in
-    let found = source_at c.args.snap.now c.args.path.now c.in-Some.found.now _ c.in-Some.ensures is in
-    rw (object_at (source c.args.snap.now) above c.args.counted c.args.at.now c.args.path.now (visit_of c.args.counts.now) (32 - length above) _ found)
+    let found = source_at c.args.snap.now.entries c.args.path.now c.in-Some.found.now _ c.in-Some.ensures is in
+    rw (object_at (source c.args.snap.now.entries) above c.args.counted c.args.at.now c.args.path.now (visit_of c.args.counts.now) (32 - length above) _ found)
     (c.visit_object.ensures.walk _ is)
 
 -- ---- a blueprint
 
 pub visit_blueprint-returns-in-Some-clause-walk : goal.visit_blueprint-returns-in-Some-clause-walk
 visit_blueprint-returns-in-Some-clause-walk t c =
-    barred (source c.args.snap.now) c.as_slice.result.now c.args.above.now c.args.counted c.args.at.now c.args.path.now (visit_of c.args.counts.now) (tree_of c.args.image.now.body) c.in-Some.barred c.args.counts.now c.as_slice.ensures c.requires.there c.in-Some.ensures
+    barred (source c.args.snap.now.entries) c.as_slice.result.now c.args.above.now c.args.counted c.args.at.now c.args.path.now (visit_of c.args.counts.now) (tree_of c.args.image.now.body) c.in-Some.barred c.args.counts.now c.as_slice.ensures c.requires.there c.in-Some.ensures
 
 pub visit_blueprint-returns-in_err-enter-clause-walk : goal.visit_blueprint-returns-in_err-enter-clause-walk
 visit_blueprint-returns-in_err-enter-clause-walk t c =
-    let ns = c.args.snap.now in
+    let ns = c.args.snap.now.entries in
     let above = c.args.above.now in
     let at = c.args.at.now in
     let p = c.args.path.now in
@@ -54,20 +54,20 @@ visit_blueprint-returns-in_err-part-clause-walk t c =
     let q = err_from_is_err_and c.from_residual-in_err-part.result c.from_residual-in_err-part.ensures.1 in
     let walked = rw (c.in_ok-push.ensures.ok, c.copy.ensures, c.body.ensures.body) at c.in_err-part.ensures.walk in
     rw (q.1, q.2)
-    (refused_inside c.args.snap.now c.as_slice.result.now c.args.above.now c.args.counted c.args.at.now c.args.path.now (visit_of c.args.counts.now) (tree_of c.args.image.now.body) c.requires.there c.as_slice.ensures c.in_default.ensures
+    (refused_inside c.args.snap.now.entries c.as_slice.result.now c.args.above.now c.args.counted c.args.at.now c.args.path.now (visit_of c.args.counts.now) (tree_of c.args.image.now.body) c.requires.there c.as_slice.ensures c.in_default.ensures
     c.in_err-part.field-0.0 (site_of c.args.at.now c.in_ok-enter.field-0) c.enter.new.counts c.visit_tree.new.counts c.visit_tree.new.counts c.in_ok-enter.ensures.walk walked)
 
 pub visit_blueprint-returns-clause-walk : goal.visit_blueprint-returns-clause-walk
 visit_blueprint-returns-clause-walk t c =
     let walked = rw (c.in_ok-push.ensures.ok, c.copy.ensures, c.body.ensures.body) at c.in_ok-part.ensures.walk in
-    walked_inside c.args.snap.now c.as_slice.result.now c.args.above.now c.args.counted c.args.at.now c.args.path.now (visit_of c.args.counts.now) (tree_of c.args.image.now.body) c.requires.there c.as_slice.ensures c.in_default.ensures
+    walked_inside c.args.snap.now.entries c.as_slice.result.now c.args.above.now c.args.counted c.args.at.now c.args.path.now (visit_of c.args.counts.now) (tree_of c.args.image.now.body) c.requires.there c.as_slice.ensures c.in_default.ensures
     c.in_ok-part.part (site_of c.args.at.now c.in_ok-enter.field-0) c.enter.new.counts c.visit_tree.new.counts c.in_ok-enter.ensures.walk walked
 
 -- ---- down to the first path
 
 pub descend-returns-in-Path-clause-walk : goal.descend-returns-in-Path-clause-walk
 descend-returns-in-Path-clause-walk t c end h =
-    let ns = c.args.snap.now in
+    let ns = c.args.snap.now.entries in
     let above = c.args.above.now in
     let at = c.args.at.now in
     let inv = c.nodes.invariant in
@@ -80,7 +80,7 @@ descend-returns-in-Path-clause-walk t c end h =
 pub descend-returns-in_err-node-in-Under-clause-walk :
     goal.descend-returns-in_err-node-in-Under-clause-walk
 descend-returns-in_err-node-in-Under-clause-walk t c end h =
-    let ns = c.args.snap.now in
+    let ns = c.args.snap.now.entries in
     let above = c.args.above.now in
     let at = c.args.at.now in
     let v = visit_of c.nodes.counts in
@@ -92,7 +92,7 @@ descend-returns-in_err-node-in-Under-clause-walk t c end h =
 
 pub descend-nodes-preserved-in-Under : goal.descend-nodes-preserved-in-Under
 descend-nodes-preserved-in-Under t c =
-    let ns = c.args.snap.now in
+    let ns = c.args.snap.now.entries in
     let above = c.args.above.now in
     let at = c.args.at.now in
     let inv = c.nodes.invariant in
@@ -120,7 +120,7 @@ descend-nodes-preserved-in-Under t c =
 pub descend-returns-in_err-node-in-Join-clause-walk :
     goal.descend-returns-in_err-node-in-Join-clause-walk
 descend-returns-in_err-node-in-Join-clause-walk t c end h =
-    let ns = c.args.snap.now in
+    let ns = c.args.snap.now.entries in
     let above = c.args.above.now in
     let at = c.args.at.now in
     let v = visit_of c.nodes.counts in
@@ -133,7 +133,7 @@ descend-returns-in_err-node-in-Join-clause-walk t c end h =
 
 pub descend-nodes-preserved : goal.descend-nodes-preserved
 descend-nodes-preserved t c =
-    let ns = c.args.snap.now in
+    let ns = c.args.snap.now.entries in
     let above = c.args.above.now in
     let at = c.args.at.now in
     let inv = c.nodes.invariant in
@@ -164,7 +164,7 @@ descend-nodes-preserved t c =
 
 pub resume-returns-in-First-clause-walk : goal.resume-returns-in-First-clause-walk
 resume-returns-in-First-clause-walk t c u end means h =
-    let ns = c.args.snap.now in
+    let ns = c.args.snap.now.entries in
     let above = c.args.above.now in
     let at = c.args.at.now in
     let v = visit_of c.args.counts.now in
@@ -175,7 +175,7 @@ resume-returns-in-First-clause-walk t c u end means h =
 pub resume-returns-in_ok-left-in-Right-clause-walk :
     goal.resume-returns-in_ok-left-in-Right-clause-walk
 resume-returns-in_ok-left-in-Right-clause-walk t c u end means h =
-    let ns = c.args.snap.now in
+    let ns = c.args.snap.now.entries in
     let above = c.args.above.now in
     let at = c.args.at.now in
     let v = visit_of c.args.counts.now in
@@ -186,7 +186,7 @@ resume-returns-in_ok-left-in-Right-clause-walk t c u end means h =
 
 pub visit_others-returns-clause-walk : goal.visit_others-returns-clause-walk
 visit_others-returns-clause-walk t c u end means h =
-    let ns = c.args.snap.now in
+    let ns = c.args.snap.now.entries in
     let above = c.args.above.now in
     let at = c.args.at.now in
     let v = visit_of c.args.counts.now in
@@ -209,14 +209,14 @@ visit_others-returns-clause-walk t c u end means h =
 
 pub visit_tree-returns-in_err-part-clause-walk : goal.visit_tree-returns-in_err-part-clause-walk
 visit_tree-returns-in_err-part-clause-walk t c =
-    let walk = tree_in c.args.snap.now c.args.above.now c.args.at.now (tree_of c.args.expr.now) (visit_of c.args.counts.now) in
+    let walk = tree_in c.args.snap.now.entries c.args.above.now c.args.at.now (tree_of c.args.expr.now) (visit_of c.args.counts.now) in
     let q = err_from_is_err_and c.from_residual.result c.from_residual.ensures.1 in
     rw (q.1, q.2)
     (refused_so _ c.in_err-part.field-0.0 walk c.descend.new.counts c.descend.new.counts ((rw c.new-pending.ensures at c.in_err-part.ensures.walk) walk (ends_so walk)))
 
 pub visit_tree-pending-init : goal.visit_tree-pending-init
 visit_tree-pending-init t c =
-    let walk = tree_in c.args.snap.now c.args.above.now c.args.at.now (tree_of c.args.expr.now) (visit_of c.args.counts.now) in
+    let walk = tree_in c.args.snap.now.entries c.args.above.now c.args.at.now (tree_of c.args.expr.now) (visit_of c.args.counts.now) in
     record {
       walked = (rw c.new-pending.ensures at c.in_ok-part.ensures.walk) walk (ends_so walk);
       counted = c.in_ok-part.ensures.counted;

@@ -39,11 +39,11 @@ invariant-visit_tree-pending l =
     record {
       walked :
           (t : Term) × Means l.part t
-          × EndsIn l.snap l.fn.above l.at l.pending t (visit_of l.counts)
-          (tree_in l.snap l.fn.above l.at (tree_of l.expr) (visit_of l.fn.counts));
+          × EndsIn l.snap.entries l.fn.above l.at l.pending t (visit_of l.counts)
+          (tree_in l.snap.entries l.fn.above l.at (tree_of l.expr) (visit_of l.fn.counts));
       counted : AreCounted l.counts;
       above : l.above ≡ l.fn.above;
-      found : AreFound l.snap l.fn.counts.read.entries → AreFound l.snap l.counts.read.entries;
+      found : AreFound l.snap.entries l.fn.counts.read.entries → AreFound l.snap.entries l.counts.read.entries;
       least : l.fn.counts.nodes ≤ l.counts.nodes;
     }
 
@@ -54,13 +54,13 @@ abbrev pub invariant-descend-nodes : goal.invariant-descend-nodes
 invariant-descend-nodes l =
     record {
       walked : (end : Visited Term)
-          → Comes (tree_in l.snap l.fn.above l.at (tree_of l.fn.expr) (visit_of l.fn.counts))
-          (EndsIn l.snap l.fn.above l.at l.fn.pending) end
-          → Comes (tree_in l.snap l.fn.above l.at (tree_of l.expr) (visit_of l.counts))
-          (EndsIn l.snap l.fn.above l.at l.pending) end;
+          → Comes (tree_in l.snap.entries l.fn.above l.at (tree_of l.fn.expr) (visit_of l.fn.counts))
+          (EndsIn l.snap.entries l.fn.above l.at l.fn.pending) end
+          → Comes (tree_in l.snap.entries l.fn.above l.at (tree_of l.expr) (visit_of l.counts))
+          (EndsIn l.snap.entries l.fn.above l.at l.pending) end;
       formed : IsTrue (is_formed l.expr);
       counted : AreCounted l.counts;
-      found : AreFound l.snap l.fn.counts.read.entries → AreFound l.snap l.counts.read.entries;
+      found : AreFound l.snap.entries l.fn.counts.read.entries → AreFound l.snap.entries l.counts.read.entries;
       above : l.above ≡ l.fn.above;
       least : l.fn.counts.nodes ≤ l.counts.nodes;
       begun : length l.pending + l.fn.counts.nodes ≡ length l.fn.pending + l.counts.nodes;

@@ -1,0 +1,9 @@
+pub mod Grow
+pub mod Legality
+pub mod Numbers
+pub mod Rooms
+pub mod Caches
+pub mod Dues
+pub mod Lawful
+pub mod Turns
+pub mod Endings

@@ -1,0 +1,11 @@
+pub mod Steps
+pub mod Told
+pub mod Asked
+pub mod Room
+pub mod Owed
+pub mod Cache
+pub mod Due
+pub mod Legal
+pub mod Laws
+pub mod Tallied
+pub mod Examples

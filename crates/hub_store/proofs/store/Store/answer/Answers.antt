@@ -1,0 +1,162 @@
+use Rattle.std.proofs.Common.{◌≡◌, length}
+use Rattle.std.proofs.Common.{Some, Ok, refl, ap, sym, ◌∙◌, arith, subst, append_assoc}
+use Rattle.std.proofs.lemmas.List.{length_push}
+use Rattle.link_model.specs.Answer.{answer}
+use Rattle.link_model.specs.Module.{LinkedImage}
+use Rattle.image_cache.specs.Items.{leaving}
+use Rattle.hub_store.proofs.Links.{ticket_room, image_may_end, after_unstored, unstored_ending, after_stored, stored_ending}
+use Rattle.hub_store.proofs.Links.{after_evicting, evicting_ending, facts_apart}
+use Rattle.hub_store.proofs.Storing.{as_new_told, storing_is, storing_none, step_for}
+use Rattle.hub_store.proofs.store.Store.answer.Goals as goal
+
+pub push-requires : goal.push-requires
+push-requires c =
+    let ticket = rw (← c.ticket.view_is, ← c.self.view_is) at c.requires.ticket in
+    omega (arith, ticket_room _ _ _ _ _ _ c.self.invariant.0 ticket)
+
+pub invariant_of-self : goal.invariant_of-self
+invariant_of-self c =
+    let ticket = rw (← c.ticket.view_is, ← c.self.view_is) at c.requires.ticket in
+    let image = rw (← c.ticket.view_is, ← c.self.view_is) at c.requires.image in
+    let base = c.base.ensures.base ∙ ap (λ (l : LinkedImage). l.base) c.get-2.ensures in
+    let new = as_new_told _ _ _ (facts_apart _ _ _ _ c.self.invariant.0.told) ∙ sym c.if-has_as_new.ensures in
+    let is = subst (λ (l : LinkedImage). answer l.footprint l.path l.base ≡ Ok l.bytes) c.get.ensures c.is_answer.ensures in
+    let may = image_may_end _ _ c.args.image image.0 ticket image.1 is in
+    rw (c.push.ensures.steps, c.push.ensures.capacity, base)
+    (after_unstored _ _ _ _ _ _ _ c.self.invariant.0 ticket may (storing_none c.self.inside.cache.capacity c.self.inside.cache.items c.ticket.inside.seat c.ticket.inside.number c.ticket.inside.path c.ticket.inside.version new), c.self.invariant.1, c.self.invariant.2)
+
+pub returns-then-has_as_new : goal.returns-then-has_as_new
+returns-then-has_as_new c =
+    let ticket = rw (← c.ticket.view_is, ← c.self.view_is) at c.requires.ticket in
+    let image = rw (← c.ticket.view_is, ← c.self.view_is) at c.requires.image in
+    let base = c.base.ensures.base ∙ ap (λ (l : LinkedImage). l.base) c.get-2.ensures in
+    let new = as_new_told _ _ _ (facts_apart _ _ _ _ c.self.invariant.0.told) ∙ sym c.if-has_as_new.ensures in
+    rw (
+      ← c.self.view_is,
+      ← c.ticket.view_is,
+      c.push.ensures.steps,
+      c.push.ensures.capacity,
+      base,
+      unstored_ending _ _ _ _ _ _ c.args.image.base c.self.invariant.0 ticket (storing_none c.self.inside.cache.capacity c.self.inside.cache.items c.ticket.inside.seat c.ticket.inside.number c.ticket.inside.path c.ticket.inside.version new),
+    ) refl
+
+pub push-requires-in-Some : goal.push-requires-in-Some
+push-requires-in-Some c =
+    let ticket = rw (← c.ticket.view_is, ← c.self.view_is) at c.requires.ticket in
+    omega (arith, ticket_room _ _ _ _ _ _ c.self.invariant.0 ticket, ap length c.push.ensures.steps, length_push c.self.inside.record.steps, c.push.ensures.capacity)
+
+pub push-requires-in-Some-2 : goal.push-requires-in-Some-2
+push-requires-in-Some-2 c =
+    let ticket = rw (← c.ticket.view_is, ← c.self.view_is) at c.requires.ticket in
+    omega (
+      arith,
+      ticket_room _ _ _ _ _ _ c.self.invariant.0 ticket,
+      ap length c.push.ensures.steps,
+      length_push c.self.inside.record.steps,
+      c.push.ensures.capacity,
+      ap length c.push-in-Some.ensures.steps,
+      length_push c.push.new.self.steps,
+      c.push-in-Some.ensures.capacity,
+    )
+
+pub invariant_of-self-in-Some : goal.invariant_of-self-in-Some
+invariant_of-self-in-Some c =
+    let ticket = rw (← c.ticket.view_is, ← c.self.view_is) at c.requires.ticket in
+    let image = rw (← c.ticket.view_is, ← c.self.view_is) at c.requires.image in
+    let base = c.base.ensures.base ∙ ap (λ (l : LinkedImage). l.base) c.get-2.ensures in
+    let new = as_new_told _ _ _ (facts_apart _ _ _ _ c.self.invariant.0.told) ∙ sym c.if-has_as_new.ensures in
+    let is = subst (λ (l : LinkedImage). answer l.footprint l.path l.base ≡ Ok l.bytes) c.get.ensures c.is_answer.ensures in
+    let may = image_may_end _ _ c.args.image image.0 ticket image.1 is in
+    let gone = ap (leaving c.self.inside.cache) (sym image.1.path) ∙ sym c.in-Some.ensures.leaving in
+    let due = storing_is c.self.inside.cache.capacity c.self.inside.cache.items c.ticket.inside.seat c.ticket.inside.number c.ticket.inside.path c.ticket.inside.version c.in-Some.ensures.some new
+    ∙ ap (λ o. Some (step_for c.ticket.inside.seat c.ticket.inside.number c.ticket.inside.path c.ticket.inside.version o)) gone in
+    rw (
+      c.push-in-Some-2.ensures.steps,
+      c.push-in-Some-2.ensures.capacity,
+      c.push-in-Some.ensures.steps,
+      c.push-in-Some.ensures.capacity,
+      c.push.ensures.steps,
+      c.push.ensures.capacity,
+      c.in-Some.ensures.capacity,
+      c.in-Some.ensures.items,
+      base,
+      c.copy.ensures,
+    )
+    (after_evicting _ _ _ _ _ _ c.args.image image.0 c.in-Some.path c.self.invariant.0 ticket image.1 may due, c.self.invariant.1, c.self.invariant.2)
+
+pub returns-in-Some : goal.returns-in-Some
+returns-in-Some c =
+    let ticket = rw (← c.ticket.view_is, ← c.self.view_is) at c.requires.ticket in
+    let image = rw (← c.ticket.view_is, ← c.self.view_is) at c.requires.image in
+    let base = c.base.ensures.base ∙ ap (λ (l : LinkedImage). l.base) c.get-2.ensures in
+    let new = as_new_told _ _ _ (facts_apart _ _ _ _ c.self.invariant.0.told) ∙ sym c.if-has_as_new.ensures in
+    let gone = ap (leaving c.self.inside.cache) (sym image.1.path) ∙ sym c.in-Some.ensures.leaving in
+    let due = storing_is c.self.inside.cache.capacity c.self.inside.cache.items c.ticket.inside.seat c.ticket.inside.number c.ticket.inside.path c.ticket.inside.version c.in-Some.ensures.some new
+    ∙ ap (λ o. Some (step_for c.ticket.inside.seat c.ticket.inside.number c.ticket.inside.path c.ticket.inside.version o)) gone in
+    rw (
+      ← c.self.view_is,
+      ← c.ticket.view_is,
+      c.push-in-Some-2.ensures.steps,
+      c.push-in-Some-2.ensures.capacity,
+      c.push-in-Some.ensures.steps,
+      c.push-in-Some.ensures.capacity,
+      c.push.ensures.steps,
+      c.push.ensures.capacity,
+      c.in-Some.ensures.capacity,
+      base,
+      c.copy.ensures,
+      evicting_ending _ _ _ _ _ _ c.args.image.base c.in-Some.path c.self.invariant.0 ticket due,
+      append_assoc,
+      append_assoc,
+    ) refl
+
+pub push-requires-2 : goal.push-requires-2
+push-requires-2 c =
+    let ticket = rw (← c.ticket.view_is, ← c.self.view_is) at c.requires.ticket in
+    omega (arith, ticket_room _ _ _ _ _ _ c.self.invariant.0 ticket, ap length c.push.ensures.steps, length_push c.self.inside.record.steps, c.push.ensures.capacity)
+
+pub invariant_of-self-2 : goal.invariant_of-self-2
+invariant_of-self-2 c =
+    let ticket = rw (← c.ticket.view_is, ← c.self.view_is) at c.requires.ticket in
+    let image = rw (← c.ticket.view_is, ← c.self.view_is) at c.requires.image in
+    let base = c.base.ensures.base ∙ ap (λ (l : LinkedImage). l.base) c.get-2.ensures in
+    let new = as_new_told _ _ _ (facts_apart _ _ _ _ c.self.invariant.0.told) ∙ sym c.if-has_as_new.ensures in
+    let is = subst (λ (l : LinkedImage). answer l.footprint l.path l.base ≡ Ok l.bytes) c.get.ensures c.is_answer.ensures in
+    let may = image_may_end _ _ c.args.image image.0 ticket image.1 is in
+    let gone = ap (leaving c.self.inside.cache) (sym image.1.path) ∙ sym c.in_default.ensures.leaving in
+    let due = storing_is c.self.inside.cache.capacity c.self.inside.cache.items c.ticket.inside.seat c.ticket.inside.number c.ticket.inside.path c.ticket.inside.version c.in_default.ensures.some new
+    ∙ ap (λ o. Some (step_for c.ticket.inside.seat c.ticket.inside.number c.ticket.inside.path c.ticket.inside.version o)) gone in
+    rw (
+      c.push-2.ensures.steps,
+      c.push-2.ensures.capacity,
+      c.push.ensures.steps,
+      c.push.ensures.capacity,
+      c.in_default.ensures.capacity,
+      c.in_default.ensures.items,
+      base,
+      c.copy-2.ensures,
+    )
+    (after_stored _ _ _ _ _ _ c.args.image image.0 c.self.invariant.0 ticket image.1 may due, c.self.invariant.1, c.self.invariant.2)
+
+pub returns : goal.returns
+returns c =
+    let ticket = rw (← c.ticket.view_is, ← c.self.view_is) at c.requires.ticket in
+    let image = rw (← c.ticket.view_is, ← c.self.view_is) at c.requires.image in
+    let base = c.base.ensures.base ∙ ap (λ (l : LinkedImage). l.base) c.get-2.ensures in
+    let new = as_new_told _ _ _ (facts_apart _ _ _ _ c.self.invariant.0.told) ∙ sym c.if-has_as_new.ensures in
+    let gone = ap (leaving c.self.inside.cache) (sym image.1.path) ∙ sym c.in_default.ensures.leaving in
+    let due = storing_is c.self.inside.cache.capacity c.self.inside.cache.items c.ticket.inside.seat c.ticket.inside.number c.ticket.inside.path c.ticket.inside.version c.in_default.ensures.some new
+    ∙ ap (λ o. Some (step_for c.ticket.inside.seat c.ticket.inside.number c.ticket.inside.path c.ticket.inside.version o)) gone in
+    rw (
+      ← c.self.view_is,
+      ← c.ticket.view_is,
+      c.push-2.ensures.steps,
+      c.push-2.ensures.capacity,
+      c.push.ensures.steps,
+      c.push.ensures.capacity,
+      c.in_default.ensures.capacity,
+      base,
+      c.copy-2.ensures,
+      stored_ending _ _ _ _ _ _ c.args.image.base c.self.invariant.0 ticket due,
+      append_assoc,
+    ) refl

@@ -1,0 +1,70 @@
+-- What contracts see of a cache, and what its calls find and leave.
+use Rattle.std.specs.Prelude.{◌≡◌, ℕ, ◌==◌, ◌<◌, nat_le, Bool, true, false, not, ◌&&◌}
+use Rattle.std.specs.Prelude.{if◌then◌else◌, List, [], ◌∷◌, length, Option, Some, None, slice_index_or}
+use Rattle.std.specs.List.{find, list_any, list_all, last_or}
+use Rattle.std.specs.Option.{option_map}
+use Rattle.omos_model.specs.Names.{Name, same_name}
+use Rattle.omos_model.specs.Namespace.{Space}
+use Rattle.link_model.specs.Laws.{stamp_at}
+use Rattle.image_cache.specs.declared.item.Item.{Item}
+
+-- the items, the most recently used first, and how many there may be
+pub record CacheParts : Type 0 where
+  pub items : List Item
+  pub capacity : ℕ
+
+abbrev pub path_of : Item → Name
+path_of i = i.image.path
+
+abbrev pub is_of : Name → Item → Bool
+is_of path i = same_name path (path_of i)
+
+-- the path's item
+abbrev pub item_of : Name → List Item → Option Item
+item_of path items = find (is_of path) items
+
+abbrev pub is_held : List Item → Name → Bool
+is_held items path = list_any (is_of path) items
+
+-- the items without the path's
+abbrev pub without : Name → List Item → List Item
+without path [] = []
+without path (i ∷ items) = if is_of path i then items else i ∷ without path items
+
+-- ---- an item is current where each path that was read has the same stamp
+
+abbrev pub is_stamp : Option ℕ → ℕ → Bool
+is_stamp (Some m) n = m == n
+is_stamp None n = false
+
+abbrev pub is_current : Space → Item → Bool
+is_current ns i = list_all (λ s. is_stamp (stamp_at ns s.path) s.stamp) i.image.footprint
+
+-- an item that was last found current at the version is current on its namespace
+abbrev pub IsKnown : Space → ℕ → Item → Type 0
+IsKnown ns version i = i.current_at ≡ version → is_current ns i ≡ true
+
+-- a current item of the path stands at the position; or there is none
+abbrev pub HasFound : List Item → Name → Space → Option ℕ → Type 0
+HasFound items path ns (Some n) =
+    (n < length items)
+    × ((i : Item) → i ≡ slice_index_or items n i → (is_of path i && is_current ns i) ≡ true)
+HasFound items path ns None = list_any (λ i. is_of path i && is_current ns i) items ≡ false
+
+abbrev pub as_found : ℕ → Item → Item
+as_found version i = record i { current_at = version }
+
+-- ---- what leaves a full cache for an item of another path
+
+abbrev pub last_path : List Item → Option Name
+last_path items = option_map path_of (last_or None items)
+
+abbrev pub leaving : CacheParts → Name → Option Name
+leaving c path =
+    if not (is_held c.items path) && nat_le c.capacity (length c.items)
+    then last_path c.items
+    else None
+
+abbrev pub without_leaving : Option Name → List Item → List Item
+without_leaving (Some path) items = without path items
+without_leaving None items = items
