@@ -13,7 +13,7 @@ const BASE: u64 = 0x40_0000;
 /// The line of a refusal.
 fn line_of(alloc: Global, fault: Fault<Refusal>) -> Result<Bytes> {
     match fault {
-        Fault::Refused(refusal) => Ok(link_line(alloc, &refusal)?),
+        Fault::Refused(refusal) => Ok(Bytes::from_slice(alloc, link_line(&refusal).as_slice())?),
         Fault::NoMemory => Err(anyhow!("no memory")),
     }
 }

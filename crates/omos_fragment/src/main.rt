@@ -40,8 +40,7 @@ fn main(rt: HostRuntime) -> Result<()> {
     match fragment(rt.alloc(), &file) {
         Ok(fragment) => print_fragment(&rt, &fragment),
         Err(Fault::Refused(fault)) => {
-            let line = object_line(rt.alloc(), &fault)?;
-            rt.print(str::from_utf8(line.as_slice())?)?;
+            rt.print(str::from_utf8(object_line(&fault).as_slice())?)?;
             Ok(())
         }
         Err(Fault::NoMemory) => Err(anyhow::Error::msg("no memory")),

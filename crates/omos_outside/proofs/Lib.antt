@@ -1,1 +1,4 @@
 pub mod Giving
+pub mod Known
+pub mod Written
+pub mod Doors

@@ -2,6 +2,10 @@ pub mod Faults
 pub mod Stream
 pub mod Got
 pub mod Took
+pub mod Sent
 pub mod Plain
 pub mod Fixed
 pub mod Scripted
+pub mod Links
+pub mod Came
+pub mod ScriptedDoor

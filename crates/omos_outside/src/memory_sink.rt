@@ -1,12 +1,13 @@
 //! A sink in memory that takes small pieces, and fails where it is told to.
 
-ghost use Rattle.std.specs.Prelude.{◌≡◌, ◌<◌, ◌≤◌, [], Some, length, IfOk};
+ghost use Rattle.std.specs.Prelude.{◌≡◌, ◌^◌, ◌<◌, ◌≤◌, [], Some, length, IfOk};
 ghost use Rattle.std.specs.Io.KnownBytes.{Appends};
 ghost use Rattle.omos_outside.specs.Faults.{Rose};
 ghost use Rattle.omos_outside.specs.Took.{accepted, FitsPiece};
 ghost use Rattle.omos_outside.specs.Scripted.{ScriptedSink, AnswersWrite, after_write};
 
 use crate::calls::is_listed;
+use crate::flag::Flag;
 use crate::sink::{Sink, Took};
 use omos_base::{NoMemory, Row};
 use std::alloc::Global;
@@ -22,6 +23,14 @@ pub struct MemorySink {
     fails: Row<u32>,
     calls: u64,
     faults: u64,
+    raises: Option<Raised>,
+}
+
+/// A flag that is raised once so many bytes are held.
+#[derive(Debug, Drop)]
+struct Raised {
+    at: u32,
+    flag: Flag,
 }
 
 impl Model for MemorySink {
@@ -64,7 +73,26 @@ impl MemorySink {
             fails,
             calls: 0,
             faults: 0,
+            raises: None,
         })
+    }
+
+    /// The same sink, which raises the flag once it holds at least so many bytes.
+    pub fn raising(mut self, at: u32, flag: Flag) -> MemorySink
+        ensures { result ≡ self }
+    {
+        self.raises = Some(Raised { at, flag });
+        self.raise_flag();
+        self
+    }
+
+    // Raises the flag, where there is one and enough is held.
+    fn raise_flag(&self) {
+        if let Some(raised) = &self.raises {
+            if raised.at as usize <= self.items.len() {
+                raised.flag.raise();
+            }
+        }
     }
 
     /// What it holds.
@@ -87,6 +115,7 @@ impl Sink for MemorySink {
         ensures held { Appends (Some self.old.held) (Some self.new.held)
             (accepted result piece.now) }
         ensures later { self.old.faults ≤ self.new.faults }
+        ensures counts { self.new.faults < 2 ^ 64 }
         ensures failed { result ≡ Took.Failed → Rose self.old.faults self.new.faults }
 
         // The answer and the whole new value.
@@ -105,6 +134,7 @@ impl Sink for MemorySink {
             return Took::Failed;
         }
         self.items.extend_from_slice(&piece[..count]).unwrap();
+        self.raise_flag();
         Took::Bytes(count)
     }
 }

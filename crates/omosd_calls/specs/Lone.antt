@@ -8,8 +8,7 @@ use Rattle.omos_model.specs.declared.refusal.ObjectFault.{ObjectFault}
 use Rattle.omos_model.specs.declared.refusal.Refusal.{Refusal}
 use Rattle.link_model.specs.Answer.{answer}
 use Rattle.link_model.specs.Module.{alone}
-use Rattle.refusal_lines.specs.Fields.{line}
-use Rattle.refusal_lines.specs.Names.{link_refusal, object_refusal}
+use Rattle.refusal_lines.specs.Codes.{coded_line, link_row, object_row}
 use Rattle.omosd_calls.specs.declared.cause.Cause.{Cause}
 use Rattle.omosd_calls.specs.declared.cause.Cause.TheVariants.{Object, Link}
 
@@ -34,8 +33,8 @@ abbrev pub lone_answer : List ℕ → Result (List ℕ) Cause
 lone_answer file = unless_object (fragment_of file)
 
 abbrev pub cause_line : Cause → List ℕ
-cause_line (Object x) = line (object_refusal x)
-cause_line (Link x) = line (link_refusal x)
+cause_line (Object x) = coded_line (object_row x)
+cause_line (Link x) = coded_line (link_row x)
 
 -- this is the file's image
 abbrev pub IsImage : List ℕ → List ℕ → Type 0

@@ -1,12 +1,10 @@
 //! Why an object has no image, and the line that says so.
 
-ghost use Rattle.std.specs.Prelude.{◌≡◌, IfOk};
+ghost use Rattle.std.specs.Prelude.{◌≡◌};
 ghost use Rattle.omosd_calls.specs.Lone.{cause_line};
 
-use omos_base::{Bytes, NoMemory};
 use omos_model::{ObjectFault, Refusal};
-use refusal_lines::{link_line, object_line};
-use std::alloc::Global;
+use refusal_lines::{Line, link_line, object_line};
 
 /// Why an object has no image.
 #[derive(Debug, Drop)]
@@ -18,11 +16,11 @@ pub(crate) enum Cause {
 }
 
 /// The line that says why, as `refused O4` or `refused L10 _start`.
-pub(crate) fn line_of(alloc: Global, cause: &Cause) -> Result<Bytes, NoMemory>
-    ensures { IfOk result (λ line. line ≡ cause_line cause.now) }
+pub(crate) fn line_of(cause: &Cause) -> Line
+    ensures { result ≡ cause_line cause.now }
 {
     match cause {
-        Cause::Object(fault) => object_line(alloc, fault),
-        Cause::Link(refusal) => link_line(alloc, refusal),
+        Cause::Object(fault) => object_line(fault),
+        Cause::Link(refusal) => link_line(refusal),
     }
 }

@@ -19,16 +19,13 @@ use omos_outside::{Sink, Source};
 use std::alloc::Global;
 
 /// Writes the line that says why a file has no image.
-fn write_line<K: Sink>(alloc: Global, cause: &Cause, sink: &mut K) -> Ending
+fn write_line<K: Sink>(cause: &Cause, sink: &mut K) -> Ending
     ensures line { WroteLine result cause.now (K.held sink.old) (K.held sink.new) }
     ensures later { K.faults sink.old ≤ K.faults sink.new }
     ensures failed { result ≡ Ending.SinkFailed → Rose (K.faults sink.old) (K.faults sink.new) }
     ensures no_memory { result ≡ Ending.NoMemory → sink.new ≡ sink.old }
 {
-    let Ok(line) = line_of(alloc, cause) else {
-        return Ending::NoMemory;
-    };
-    match write_all(sink, line.as_slice()) {
+    match write_all(sink, line_of(cause).as_slice()) {
         Ok(()) => Ending::Refused,
         Err(_) => Ending::SinkFailed,
     }
@@ -46,7 +43,7 @@ fn answer_file<K: Sink>(alloc: Global, file: &[u8], sink: &mut K) -> Ending
             Ok(()) => Ending::Done,
             Err(_) => Ending::SinkFailed,
         },
-        Err(Fault::Refused(cause)) => write_line(alloc, &cause, sink),
+        Err(Fault::Refused(cause)) => write_line(&cause, sink),
         Err(Fault::NoMemory) => Ending::NoMemory,
     }
 }

@@ -7,17 +7,16 @@ use std::test::Fail;
 
 #[test]
 fn refusals_have_their_lines(rt: HostRuntime) -> Result<(), Fail> {
-    let alloc = rt.alloc();
-    let path = path_line(alloc, PathFault::Shape(3))?;
+    let path = path_line(PathFault::Shape(3));
     assert_eq!(rt; path.as_slice(), b"refused P2 3\n".as_slice());
-    let text = text_line(alloc, BpFault::Range(14))?;
+    let text = text_line(BpFault::Range(14));
     assert_eq!(rt; text.as_slice(), b"refused B6 14\n".as_slice());
     let room = Refusal::NoRoom {
         pages: 1,
         lo: 65_536,
         hi: 69_632,
     };
-    let link = link_line(alloc, &room)?;
+    let link = link_line(&room);
     assert_eq!(rt; link.as_slice(), b"refused L12 1 65536 69632\n".as_slice());
     Ok(())
 }

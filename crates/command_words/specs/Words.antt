@@ -1,0 +1,77 @@
+-- What the words of the server's command lines say.
+use Rattle.std.specs.Prelude.{ℕ, ◌==◌, nat_le, Bool, ◌&&◌, List, [], ◌∷◌, length, codes, Option, None}
+use Rattle.std.specs.Prelude.{Some, if◌then◌else◌}
+use Rattle.std.specs.Cmp.Lexicographic.{pointwise}
+use Rattle.omos_base.specs.Limits.{Counts}
+use Rattle.command_words.specs.Numbers.{number_of}
+use Rattle.command_words.specs.declared.server.SocketWords.{SocketWords}
+
+-- the word is this text
+abbrev pub is_word : List ℕ → List ℕ → Bool
+is_word word text = pointwise (λ a b. a == b) word text
+
+-- a cache holds 1 to 64 items, and a record 16 to 65,536 steps
+abbrev pub are_limits : ℕ → ℕ → Bool
+are_limits cache steps = nat_le 1 cache && nat_le cache 64 && nat_le 16 steps && nat_le steps 65536
+
+abbrev pub limits_in : Option ℕ → Option ℕ → Option Counts
+limits_in (Some cache) (Some steps) =
+    if are_limits cache steps then Some (record { cache = cache; steps = steps }) else None
+limits_in _ _ = None
+
+-- the limits that two words say
+abbrev pub limits_of : List ℕ → List ℕ → Option Counts
+limits_of cache steps = limits_in (number_of cache) (number_of steps)
+
+abbrev pub count_in : ℕ → Option ℕ → Option ℕ
+count_in most (Some count) = if nat_le 1 count && nat_le count most then Some count else None
+count_in most None = None
+
+-- the count that a word says, if it lies from 1 to so much
+abbrev pub count_of : ℕ → List ℕ → Option ℕ
+count_of most word = count_in most (number_of word)
+
+abbrev pub stdio_limits : List ℕ → List ℕ → List ℕ → Option Counts
+stdio_limits command cache steps =
+    if is_word command (codes "stdio") then limits_of cache steps else None
+
+-- `stdio CACHE STEPS`
+abbrev pub stdio_words : List (List ℕ) → Option Counts
+stdio_words (command ∷ cache ∷ steps ∷ []) = stdio_limits command cache steps
+stdio_words _ = None
+
+abbrev pub workload_count : List ℕ → List ℕ → Option ℕ
+workload_count command count =
+    if is_word command (codes "workload") then count_of 200 count else None
+
+-- `workload N`, for 1 to 200
+abbrev pub workload_words : List (List ℕ) → Option ℕ
+workload_words (command ∷ count ∷ []) = workload_count command count
+workload_words _ = None
+
+abbrev pub served_by : Option ℕ → Option ℕ → Option Counts → Option SocketWords
+served_by (Some workers) (Some sessions) (Some limits) =
+    Some (record {
+      workers = workers;
+      sessions = sessions;
+      cache = limits.cache;
+      steps = limits.steps;
+    })
+served_by _ _ _ = None
+
+-- 1 to 16 workers, 1 to 1,000,000 sessions, and lawful limits
+abbrev pub socket_numbers : List ℕ → List ℕ → List ℕ → List ℕ → Option SocketWords
+socket_numbers workers sessions cache steps =
+    served_by (count_of 16 workers) (count_of 1000000 sessions) (limits_of cache steps)
+
+abbrev pub socket_of : List ℕ → List ℕ → List ℕ → List ℕ → List ℕ → List ℕ → Option SocketWords
+socket_of command path workers sessions cache steps =
+    if is_word command (codes "socket") && nat_le 1 (length path)
+    then socket_numbers workers sessions cache steps
+    else None
+
+-- `socket PATH WORKERS SESSIONS CACHE STEPS`, of a path that isn't empty
+abbrev pub socket_words : List (List ℕ) → Option SocketWords
+socket_words (command ∷ path ∷ workers ∷ sessions ∷ cache ∷ steps ∷ []) =
+    socket_of command path workers sessions cache steps
+socket_words _ = None

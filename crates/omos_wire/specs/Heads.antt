@@ -1,0 +1,30 @@
+-- The long part of a reply, which is written from where it lies.
+use Rattle.std.specs.Prelude.{ℕ, List, []}
+use Rattle.omos_wire.specs.Answer.{Answer, Published, Image, Refused, Places, Counts, Flushed, Bye}
+use Rattle.omos_wire.specs.Answer.{NoMemory, Full, KeptFull}
+
+-- an image's file
+abbrev pub bulk : Answer → List ℕ
+bulk (Image version base bytes) = bytes
+bulk (Places spans) = []
+bulk (Published version) = []
+bulk (Refused x) = []
+bulk (Counts counts) = []
+bulk (Flushed held) = []
+bulk Bye = []
+bulk NoMemory = []
+bulk Full = []
+bulk KeptFull = []
+
+-- of a fixed width, but for an image's file
+abbrev pub IsSmall : Answer → Type 0
+IsSmall (Refused x) = ⊥
+IsSmall (Image version base bytes) = Unit {0}
+IsSmall (Places spans) = ⊥
+IsSmall (Published version) = Unit {0}
+IsSmall (Counts counts) = Unit {0}
+IsSmall (Flushed held) = Unit {0}
+IsSmall Bye = Unit {0}
+IsSmall NoMemory = Unit {0}
+IsSmall Full = Unit {0}
+IsSmall KeptFull = Unit {0}

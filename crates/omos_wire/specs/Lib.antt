@@ -1,0 +1,11 @@
+pub mod Fielded
+pub mod Message
+pub mod Sight
+pub mod Stream
+pub mod Found
+pub mod Answer
+pub mod Heads
+pub mod Laws
+pub mod Reading
+pub mod Taking
+pub mod Read

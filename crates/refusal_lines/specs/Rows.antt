@@ -1,0 +1,42 @@
+-- A row of the table of refusals, as the code has it.
+use Rattle.std.specs.Prelude.{◌≤◌, List, [], ◌∷◌, length}
+use Rattle.refusal_lines.specs.Codes as codes
+use Rattle.refusal_lines.specs.Codes.{Coded, coded}
+use Rattle.refusal_lines.specs.declared.row.Field.{Field}
+use Rattle.refusal_lines.specs.declared.row.Field.TheVariants as field
+use Rattle.refusal_lines.specs.declared.row.Fields.{Fields}
+use Rattle.refusal_lines.specs.declared.row.Fields.TheVariants as fields
+use Rattle.refusal_lines.specs.declared.row.Row.{Row}
+
+abbrev pub field_in : Field → codes.Field
+field_in (field.Number n) = codes.Number n
+field_in (field.Wide n) = codes.Wide n
+field_in (field.Path path) = codes.Path path.now
+field_in (field.Symbol name) = codes.Symbol name.now
+
+abbrev pub fields_in : Fields → List codes.Field
+fields_in fields.None = []
+fields_in (fields.One a) = field_in a ∷ []
+fields_in (fields.Two a b) = field_in a ∷ field_in b ∷ []
+fields_in (fields.Three a b c) = field_in a ∷ field_in b ∷ field_in c ∷ []
+
+abbrev pub coded_in : Row → Coded
+coded_in r = coded r.name.now r.code (fields_in r.fields)
+
+-- a path or a name has at most 1,024 bytes
+abbrev pub IsShort : Field → Type 0
+IsShort (field.Number n) = Unit {0}
+IsShort (field.Wide n) = Unit {0}
+IsShort (field.Path path) = length path.now ≤ 1024
+IsShort (field.Symbol name) = length name.now ≤ 1024
+
+abbrev pub AreShort : Fields → Type 0
+AreShort fields.None = Unit {0}
+AreShort (fields.One a) = IsShort a
+AreShort (fields.Two a b) = IsShort a × IsShort b
+AreShort (fields.Three a b c) = IsShort a × IsShort b × IsShort c
+
+-- a row fits what it is put into
+pub record IsShortRow (r : Row) : Type 0 where
+  pub name : length r.name.now ≤ 3
+  pub fields : AreShort r.fields
