@@ -107,3 +107,7 @@ pub record IsReplyFrame (bytes : List ℕ) (a : Answer) : Type 0 where
   pub frame : bytes ≡ reply_frame a
   pub size : length (payload a) ≤ longest_reply
   pub values : HasValues a
+
+-- its own frame is one that it is read back from
+abbrev pub IsReadable : Answer → Type 0
+IsReadable a = IsReplyFrame (reply_frame a) a

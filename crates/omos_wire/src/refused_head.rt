@@ -63,6 +63,7 @@ fn put_fields(bytes: &mut Long, fields: &Fields<'_>)
     }
 }
 
+/// How many bytes a field takes.
 fn size_of(field: &Field<'_>) -> u32
     requires { IsField (field_in field.now) }
     ensures size { result ≡ length (field_bytes (field_in field.now)) }
@@ -76,7 +77,8 @@ fn size_of(field: &Field<'_>) -> u32
     }
 }
 
-fn size_of_all(fields: &Fields<'_>) -> u32
+/// How many bytes the fields take.
+pub(crate) fn size_of_all(fields: &Fields<'_>) -> u32
     requires { AllByRecursion IsField (fields_in fields.now) }
     ensures size { result ≡ length (flat_map field_bytes (fields_in fields.now)) }
     ensures few { result ≤ 3078 }
