@@ -3,4 +3,3 @@ pub mod Endings
 pub mod Images
 pub mod ObjectPath
 pub mod OneWord
-pub mod Piece

@@ -18,16 +18,3 @@ HasRead before now P = (file : List ℕ) × IsInput before now file × P file
 abbrev pub ToldInput : Option Stream → Option Stream → List ℕ → Type 0
 ToldInput None now file = ⊥
 ToldInput (Some before) now file = IsInput (Some before) now file
-
--- a read that answered so made the file longer, or found the end
-abbrev pub Advances : Got → Option Stream → List ℕ → List ℕ → Type 0
-Advances (Bytes count) now file grown = length file < length grown
-Advances End now file grown = IsAtEnd now
-Advances Failed now file grown = ⊤
-
--- a read added what the source gave, at most so many bytes
-pub record HasMore (before now : Option Stream) (file grown : List ℕ) (room : ℕ) (got : Got) : Type 0 where
-  pub added : grown ≡ file ++ drop (length file) grown
-  pub given : Gives before now (drop (length file) grown)
-  pub few : length grown ≤ length file + room
-  pub advances : Advances got now file grown

@@ -1,0 +1,5 @@
+pub mod Served
+pub mod Linked
+pub mod Seats
+pub mod Runs
+pub mod Ends
