@@ -56,15 +56,15 @@ runs_joined : (c r : ℕ) (P xs ys : List Step) → Runs c r P xs → Runs c r (
     → Runs c r P (xs ++ ys)
 runs_joined c r P [] ys a b = subst (λ (Q : List Step). Runs c r Q ys) (append-nil P) b
 runs_joined c r P (x ∷ xs) ys a b = (
-    a.0,
-    runs_joined c r (P ++ x ∷ []) xs ys a.1
-    (subst (λ (Q : List Step). Runs c r Q ys) (sym (append_assoc P (x ∷ []) xs)) b),
+  a.0,
+  runs_joined c r (P ++ x ∷ []) xs ys a.1
+      (subst (λ (Q : List Step). Runs c r Q ys) (sym (append_assoc P (x ∷ []) xs)) b),
 )
 
 pub cut_law : CutLaw
 cut_law c r P xs ys = (
-    λ runs. runs_apart c r P xs ys runs,
-    λ parts. runs_joined c r P xs ys parts.0 parts.1,
+  λ runs. runs_apart c r P xs ys runs,
+  λ parts. runs_joined c r P xs ys parts.0 parts.1,
 )
 
 allowed_follows : (c r : ℕ) (P : List Step) (s : Step) → due c P ≡ None → IsAllowed r P s → Follows c r P s

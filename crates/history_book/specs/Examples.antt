@@ -42,3 +42,19 @@ pub record RecordExamples : Type 0 where
   pub flushed : due_behind 1 [] (Evicted 1 4 a ∷ Flushed 1 4 a true ∷ []) ≡ None
   -- it asks, looks, and answers for want of memory
   pub short : IsLegal 1 16 (Asked 1 0 a 0 false ∷ Looked 2 1 Stats ∷ Answered 1 0 NoMemory ∷ [])
+
+-- what no legal record has
+pub record RefusedExamples : Type 0 where
+  -- a number that isn't the next
+  pub number : ¬ IsLegal 1 16 (Missed 1 1 ∷ [])
+  -- a link request on a version that isn't there, or as a hit where nothing is held
+  pub version : ¬ IsLegal 1 16 (Asked 1 0 a 1 false ∷ [])
+  pub mark : ¬ IsLegal 1 16 (Asked 1 0 a 0 true ∷ [])
+  -- an image that leaves though no step made that due
+  pub order : ¬ IsLegal 1 16 (Evicted 1 0 a ∷ [])
+  -- a second answer, or one of another seat
+  pub twice : ¬ IsLegal 1 16
+      (Asked 1 0 a 0 false ∷ Answered 1 0 NoMemory ∷ Answered 1 0 NoMemory ∷ [])
+  pub seat : ¬ IsLegal 1 16 (Asked 1 0 a 0 false ∷ Answered 2 0 NoMemory ∷ [])
+  -- a request for which there is no room
+  pub room : ¬ IsLegal 1 4 (Missed 1 0 ∷ [])

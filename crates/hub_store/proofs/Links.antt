@@ -1,12 +1,11 @@
 -- A store keeps what it is, from a link request to its answer.
-use Rattle.std.proofs.Common.{◌≡◌, ℕ, ◌+◌, ◌<◌, ◌≤◌, Bool, true, false, ◌&&◌, ◌||◌, ◌==◌}
+use Rattle.std.proofs.Common.{◌≡◌, ℕ, ◌+◌, ◌<◌, ◌≤◌, true, false, ◌&&◌}
 use Rattle.std.proofs.Common.{List, [], ◌∷◌, ◌++◌, length, get_or, refl, ap, sym, ◌∙◌, subst, arith, append_assoc}
-use Rattle.std.proofs.Common.{Some, None, Ok, if◌then◌else◌, unwrap_or, true≢false, append-nil}
-use Rattle.std.specs.List.{All, list_any, filter_map, cons_option, remove}
+use Rattle.std.proofs.Common.{Some, None, Ok, unwrap_or, append-nil}
+use Rattle.std.specs.List.{All, list_any, remove}
 use Rattle.std.specs.Option.{option_map}
 use Rattle.std.proofs.lemmas.Bool.{and_parts}
-use Rattle.std.proofs.lemmas.Bool.Decides.{nat_tests}
-use Rattle.std.proofs.lemmas.List.Elements.{All-cons, All-get_or, filter_map-append}
+use Rattle.std.proofs.lemmas.List.Elements.{All-cons, All-get_or}
 use Rattle.std.proofs.lemmas.List.Folds.{list_any_at}
 use Rattle.omos_base.specs.Limits.{Counts as Limits}
 use Rattle.omos_model.specs.Footprint.{footprint}
@@ -37,8 +36,8 @@ use Rattle.history_book.specs.declared.step.Note.{Note}
 use Rattle.history_book.specs.declared.step.Note.TheVariants.{Image}
 use Rattle.history_book.specs.declared.step.Note.TheVariants as note
 use Rattle.history_book.specs.declared.step.Step.{Step}
-use Rattle.history_book.specs.declared.step.Step.TheVariants.{Put, Missed, Looked, Asked, Placed}
-use Rattle.history_book.specs.declared.step.Step.TheVariants.{Answered, Evicted, Stored, Flushed}
+use Rattle.history_book.specs.declared.step.Step.TheVariants.{Asked, Placed}
+use Rattle.history_book.specs.declared.step.Step.TheVariants.{Answered, Evicted, Stored}
 use Rattle.history_book.proofs.Grow.{cache_push, namespace_same, namespace_stays, book_push}
 use Rattle.history_book.proofs.Grow.{version_same}
 use Rattle.history_book.proofs.Legality.{due_push, due_push_two, legal_push, legal_push_two, legal_push_three}

@@ -1,13 +1,15 @@
 //! The placements of a store.
 
 ghost use Rattle.std.specs.Prelude.{◌≡◌, ◌+◌, ◌*◌, ◌<◌, ◌≤◌, List, [], ◌∷◌, ◌++◌, length};
-ghost use Rattle.std.specs.Prelude.{slice_index_or, IfOk, OnOk, IsTrue, filter, cond};
-ghost use Rattle.std.specs.List.{All, find};
+ghost use Rattle.std.specs.Prelude.{slice_index_or, IfOk, OnOk, IsTrue, filter, cond, map};
+ghost use Rattle.std.specs.List.{All, find, position_or_len};
 ghost use Rattle.std.specs.Option.{option_map};
 ghost use Rattle.omos_model.specs.ImageParts.{is_range};
 ghost use Rattle.omos_model.specs.Places.{place_for, serves, is_of, past_of, CanJoin, Stands};
 ghost use Rattle.place_book.specs.Books.{IsPlacement};
+ghost use Rattle.place_book.specs.Keys.{key_of, key_of_placement};
 
+use crate::key::key_of;
 use crate::span::{Span, least_base, position_after};
 use omos_base::{NoMemory, PathName, Row};
 use omos_model::{Place, Placement};
@@ -18,13 +20,16 @@ use std::marker::Model;
 #[derive(Drop)]
 pub struct Book {
     placed: Vec<Placement>,
+    /// The keys of their paths.
+    keys: Vec<u32>,
     /// Their addresses, in order.
     spans: Vec<Span>,
     capacity: u32,
 }
 
 impl Model for Book {
-    ghost use Rattle.std.specs.Prelude.{◌≡◌, ◌≤◌, vec_len, vec_capacity};
+    ghost use Rattle.std.specs.Prelude.{◌≡◌, ◌≤◌, map, vec_len, vec_capacity};
+    ghost use Rattle.place_book.specs.Keys.{key_of_placement};
     ghost use Rattle.place_book.specs.Books.{BookParts, IsKept};
 
     ghost Value = { BookParts };
@@ -34,7 +39,9 @@ impl Model for Book {
     ghost invariant = { λ b.
         IsKept b.placed.items b.spans.items
         × (vec_len b.placed ≤ b.capacity) × (b.capacity ≤ vec_capacity b.placed)
-        × (vec_len b.spans ≡ vec_len b.placed) × (b.capacity ≤ vec_capacity b.spans) };
+        × (vec_len b.spans ≡ vec_len b.placed) × (b.capacity ≤ vec_capacity b.spans)
+        × (b.keys.items ≡ map key_of_placement b.placed.items)
+        × (vec_len b.keys ≡ vec_len b.placed) × (b.capacity ≤ vec_capacity b.keys) };
 }
 
 /// Whether a placement serves an image of the path.
@@ -48,14 +55,64 @@ fn serves_path(placement: &Placement, path: &PathName, pages: u32, lo: u64, hi: 
         && 4096 * u64::from(placement.pages) <= hi - placement.base
 }
 
+/// The same, where most paths are told apart by their keys.
+fn serves_key(
+    placement: &Placement,
+    theirs: u32,
+    path: &PathName,
+    key: u32,
+    pages: u32,
+    lo: u64,
+    hi: u64,
+) -> bool
+    requires theirs { theirs ≡ key_of placement.now.path }
+    requires own { key ≡ key_of path.now }
+    ensures { result ≡ serves path.now pages lo hi placement.now }
+{
+    theirs == key && serves_path(placement, path, pages, lo, hi)
+}
+
+/// The position of the first placement that serves, or the number of placements.
+fn position_held(
+    placed: &[Placement],
+    keys: &[u32],
+    path: &PathName,
+    pages: u32,
+    lo: u64,
+    hi: u64,
+) -> usize
+    requires { keys.now ≡ map key_of_placement placed.now }
+    ensures value { result ≡ position_or_len (serves path.now pages lo hi) placed.now }
+    ensures within { result ≤ length placed.now }
+{
+    let key = key_of(path);
+    let mut at = 0;
+    'placements: while at < keys.len()
+        && !serves_key(&placed[at], keys[at], path, key, pages, lo, hi)
+    {
+        at += 1;
+    }
+    at
+}
+
 /// The base of the first placement that serves.
-fn first_held(placed: &[Placement], path: &PathName, pages: u32, lo: u64, hi: u64) -> Option<u64>
+fn first_held(
+    placed: &[Placement],
+    keys: &[u32],
+    path: &PathName,
+    pages: u32,
+    lo: u64,
+    hi: u64,
+) -> Option<u64>
+    requires { keys.now ≡ map key_of_placement placed.now }
     ensures { result ≡ option_map (λ p. p.base) (find (serves path.now pages lo hi) placed.now) }
 {
-    placed
-        .iter()
-        .find(|placement| serves_path(placement, path, pages, lo, hi))
-        .map(|placement| placement.base)
+    let at = position_held(placed, keys, path, pages, lo, hi);
+    if at < placed.len() {
+        Some(placed[at].base)
+    } else {
+        None
+    }
 }
 
 /// Appends the placement, where it is the path's.
@@ -81,11 +138,15 @@ impl Book {
         let Ok(placed) = Vec::with_capacity(alloc, capacity as usize) else {
             return Err(NoMemory);
         };
+        let Ok(keys) = Vec::with_capacity(alloc, capacity as usize) else {
+            return Err(NoMemory);
+        };
         let Ok(spans) = Vec::with_capacity(alloc, capacity as usize) else {
             return Err(NoMemory);
         };
         Ok(Book {
             placed,
+            keys,
             spans,
             capacity,
         })
@@ -100,7 +161,14 @@ impl Book {
         ensures place { result ≡ place_for self.now.placements path.now pages lo hi }
         ensures stands { Stands result pages }
     {
-        let held = first_held(self.placed.as_slice(), path, pages, lo, hi);
+        let held = first_held(
+            self.placed.as_slice(),
+            self.keys.as_slice(),
+            path,
+            pages,
+            lo,
+            hi,
+        );
         if let Some(base) = held {
             return Place::Held(base);
         }
@@ -126,6 +194,7 @@ impl Book {
         };
         let at = position_after(self.spans.as_slice(), span.base);
         self.spans.insert(at, span).unwrap();
+        self.keys.push(key_of(&placement.path)).unwrap();
         self.placed.push(placement).unwrap();
     }
 

@@ -1,19 +1,23 @@
-//! Any writer as a sink. It tells nothing of the bytes.
+//! Any writer as a sink: standard output, a file or a socket. It tells nothing of the bytes.
 
-ghost use Rattle.std.specs.Prelude.{◌≤◌, length, IfOk, None};
+ghost use Rattle.std.specs.Prelude.{◌≡◌, ◌≤◌, length, IfOk, None};
 
 use omos_outside::{Sink, Took};
 use std::io::{Error, ErrorKind, Result, Write};
 
-/// A writer, with a count of its failures.
+/// A writer, with a count of its failures. A write that was interrupted is tried again, and one that
+/// takes nothing is a failure.
 #[derive(Drop)]
-pub(crate) struct Writing<W: Write + Drop> {
+pub struct Writing<W: Write + Drop> {
     inner: W,
     faults: u64,
 }
 
 impl<W: Write + Drop> Writing<W> {
-    pub(crate) fn new(inner: W) -> Writing<W> {
+    /// A sink over the writer, which hasn't failed yet.
+    pub fn new(inner: W) -> Writing<W>
+        ensures { result.faults ≡ 0 }
+    {
         Writing { inner, faults: 0 }
     }
 }
@@ -25,10 +29,11 @@ impl<W: Write + Drop> Sink for Writing<W> {
 
     /// A write that takes nothing has failed.
     fn write(&mut self, piece: &[u8]) -> Took {
+        let faults = self.faults;
         match write_once(&mut self.inner, piece) {
             Ok(count) if count > 0 => Took::Bytes(count),
             _ => {
-                self.faults = self.faults.saturating_add(1);
+                self.faults = faults.saturating_add(1);
                 Took::Failed
             }
         }
@@ -36,7 +41,7 @@ impl<W: Write + Drop> Sink for Writing<W> {
 }
 
 /// Writes once; a write that was interrupted is tried again.
-fn write_once<W: Write>(inner: &mut W, piece: &[u8]) -> Result<usize>
+pub(crate) fn write_once<W: Write>(inner: &mut W, piece: &[u8]) -> Result<usize>
     ensures { IfOk result (λ count. count ≤ length piece.now) }
 {
     for _ in 0..u64::MAX {
