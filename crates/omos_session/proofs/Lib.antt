@@ -1,0 +1,11 @@
+pub mod Moves
+pub mod Going
+pub mod Dues
+pub mod Serving
+pub mod Sessions
+pub mod Objects
+pub mod Making
+pub mod TurnLaws
+pub mod Complete
+pub mod FewMisses
+pub mod Gates

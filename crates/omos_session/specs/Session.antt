@@ -1,0 +1,105 @@
+-- A session from end to end.
+use Rattle.std.specs.Prelude.{◌≡◌, ℕ, zero, suc, ◌≤◌, ◌<◌, Bool, List, [], ◌∷◌, ◌++◌, length, map}
+use Rattle.std.specs.Prelude.{take, Option}
+use Rattle.std.specs.List.{AllByRecursion, flat_map}
+use Rattle.std.specs.Io.KnownBytes.{Appends}
+use Rattle.omos_outside.specs.Stream.{Stream, Gives, IsAtEnd}
+use Rattle.omos_wire.specs.Message.{Message, End, frame}
+use Rattle.omos_wire.specs.Answer.{reply_frame}
+use Rattle.omos_wire.specs.Stream.{Starts, Cut, Waiting, Stuck}
+use Rattle.omos_hub.specs.Standing.{Standing, Went, misses}
+use Rattle.omos_session.specs.Talk.{Row, IsTold, turns_of}
+use Rattle.omos_session.specs.declared.session.SessionEnd.{SessionEnd}
+use Rattle.omos_session.specs.declared.session.SessionEnd.TheVariants as ending
+
+abbrev pub frames : List Row → List Message
+frames rows = map (λ (row : Row). row.frame) rows
+
+-- ---- the frames that are answered
+
+abbrev pub NoEnd : List Row → Type 0
+NoEnd rows = AllByRecursion (λ (row : Row). row.frame ≡ End → ⊥) rows
+
+-- the rows are those before the last, none of which is the end, and a last one
+pub record IsLast (rows before : List Row) (last : Row) : Type 0 where
+  pub split : rows ≡ before ++ last ∷ []
+  pub none_before : NoEnd before
+
+-- how many frames a session may have
+abbrev pub max_frames : ℕ
+max_frames = 65536
+
+-- the rows are of these frames of what was taken, by how the session ends
+abbrev pub Answers : SessionEnd → Option Stream → List ℕ → List Row → Type 0
+Answers ending.Ended now taken rows =
+    (before : List Row) × (last : Row) × (tail : List ℕ) × IsLast rows before last
+    × (last.frame ≡ End) × Starts taken (frames rows) tail
+Answers ending.Closed now taken rows =
+    NoEnd rows × Cut taken (frames rows) (Waiting 0) × IsAtEnd now
+Answers (ending.Truncated count) now taken rows =
+    NoEnd rows × Cut taken (frames rows) (Waiting count) × (1 ≤ count) × IsAtEnd now
+Answers (ending.BadFrame place cause) now taken rows =
+    NoEnd rows × Cut taken (frames rows) (Stuck place cause)
+Answers ending.ReadFault now taken rows =
+    NoEnd rows × (count : ℕ) × Cut taken (frames rows) (Waiting count)
+Answers ending.WriteFault now taken rows =
+    (before : List Row) × (last : Row) × (tail : List ℕ) × IsLast rows before last
+    × Starts taken (frames rows) tail
+Answers ending.TooMany now taken rows =
+    NoEnd rows × (length rows ≡ max_frames)
+    × (next : Message) × (tail : List ℕ) × Starts taken (frames rows ++ next ∷ []) tail
+Answers ending.NoMemory now taken rows =
+    NoEnd rows × (tail : List ℕ) × Starts taken (frames rows) tail
+
+-- ---- the bytes that are written
+
+abbrev pub reply_bytes : List Row → List ℕ
+reply_bytes rows = flat_map (λ (row : Row). reply_frame row.reply) rows
+
+-- all replies but the last, and a part of that one
+abbrev pub IsCutOff : List ℕ → List Row → Type 0
+IsCutOff written rows =
+    (before : List Row) × (last : Row) × (count : ℕ) × (rows ≡ before ++ last ∷ [])
+    × (count < length (reply_frame last.reply))
+    × (written ≡ reply_bytes before ++ take count (reply_frame last.reply))
+
+-- the replies in their order; where the sink failed, the last one in part
+abbrev pub Writes : SessionEnd → List ℕ → List Row → Type 0
+Writes ending.WriteFault written rows = IsCutOff written rows
+Writes _ written rows = written ≡ reply_bytes rows
+
+-- ---- the whole
+
+-- A session took these bytes, answered the frames among them that its end allows, on the record,
+-- and wrote the replies.
+pub record IsSession (alone : Bool) (old new : Standing) (told told' : Option Stream)
+    (held held' : Option (List ℕ)) (end : SessionEnd) : Type 0 where
+  pub rows : List Row
+  pub taken : List ℕ
+  pub written : List ℕ
+  pub went : Went alone old new (turns_of rows) (misses (turns_of rows))
+  pub rows_told : AllByRecursion (IsTold old.room old.seat) rows
+  pub read : Gives told told' taken
+  pub answers : Answers end told' taken rows
+  pub wrote : Appends held held' written
+  pub writes : Writes end written rows
+  pub few : length rows ≤ max_frames
+
+-- A session that goes on: these rows are answered and written, and these bytes wait.
+pub record Going (alone : Bool) (old new : Standing) (told told' : Option Stream)
+    (held held' : Option (List ℕ)) (place count : ℕ) (waiting : List ℕ) : Type 0 where
+  pub rows : List Row
+  pub taken : List ℕ
+  pub went : Went alone old new (turns_of rows) (misses (turns_of rows))
+  pub rows_told : AllByRecursion (IsTold old.room old.seat) rows
+  pub read : Gives told told' taken
+  pub starts : Starts taken (frames rows) waiting
+  pub at : place ≡ length (flat_map frame (frames rows))
+  pub wrote : Appends held held' (reply_bytes rows)
+  pub none_ended : NoEnd rows
+  pub counted : count ≡ length rows
+
+-- the end of a session whose source has ended with so many bytes waiting
+abbrev pub ending_of : ℕ → SessionEnd
+ending_of zero = ending.Closed
+ending_of (suc count) = ending.Truncated (suc count)
