@@ -1,26 +1,17 @@
 //! What the client prints of a reply.
 
-ghost use Rattle.std.specs.Prelude.{◌≡◌, ◌++◌, IfOk, OnOk, decimal};
+ghost use Rattle.std.specs.Prelude.{◌≡◌, ◌++◌, IfOk, OnOk};
 ghost use Rattle.std.specs.List.{flat_map};
 ghost use Rattle.omos_wire.specs.Answer as answer;
 ghost use Rattle.omos_wire.specs.Read.{answer_in};
 ghost use Rattle.omos_client.specs.Lines.{counts_line, hex_text, image_line, line_for, span_line};
 
+use count_lines::push_count;
 use hub_store::Counts;
-use itoa::Buffer;
 use omos_base::{Bytes, NoMemory};
 use omos_wire::{ReplyParts, Span};
 use refusal_lines::line_of;
 use std::alloc::Global;
-
-/// Appends a text and a decimal number.
-fn push_count(line: &mut Bytes, text: &[u8], number: u64) -> Result<(), NoMemory>
-    ensures { OnOk result (line.new ≡ line.old ++ text.now ++ decimal number) }
-{
-    let mut buffer = Buffer::new();
-    line.push_slice(text)?;
-    line.push_slice(buffer.format(number).as_bytes())
-}
 
 /// Appends a number as `0x` and lower-case digits.
 fn push_hex(alloc: Global, line: &mut Bytes, number: u64) -> Result<(), NoMemory>
