@@ -1,5 +1,5 @@
 -- What the words of the server's command lines say.
-use Rattle.std.specs.Prelude.{ℕ, ◌==◌, nat_le, Bool, ◌&&◌, List, [], ◌∷◌, length, codes, Option, None}
+use Rattle.std.specs.Prelude.{ℕ, ◌==◌, nat_le, Bool, false, ◌&&◌, List, [], ◌∷◌, length, codes, Option, None}
 use Rattle.std.specs.Prelude.{Some, if◌then◌else◌}
 use Rattle.std.specs.Cmp.Lexicographic.{pointwise}
 use Rattle.omos_base.specs.Limits.{Counts}
@@ -9,6 +9,11 @@ use Rattle.command_words.specs.declared.server.SocketWords.{SocketWords}
 -- the word is this text
 abbrev pub is_word : List ℕ → List ℕ → Bool
 is_word word text = pointwise (λ a b. a == b) word text
+
+-- the words are this text alone
+abbrev pub is_alone : List (List ℕ) → List ℕ → Bool
+is_alone (word ∷ []) text = is_word word text
+is_alone _ text = false
 
 -- a cache holds 1 to 64 items, and a record 16 to 65,536 steps
 abbrev pub are_limits : ℕ → ℕ → Bool

@@ -1,28 +1,18 @@
-//! `omosd`, the linker server. It hands the words of the command line and the standard streams to
-//! the top call of the crate `omosd_calls` and ends with its status.
+//! `omosd`, the linker server. It hands the words of the command line and the real outside to the top
+//! calls of the crates `omosd_calls` and `session_calls`, and ends with their status.
 #![tactic(auto)]
 
-mod words;
+mod help;
+mod socket;
 
-use crate::words::{is_word, words_of};
+use crate::help::{HELP, USAGE, VERSION};
+use crate::socket::serve_socket;
+use command_words::{is_alone, words_of};
 use omos_adapt::{Reading, Writing};
 use omosd_calls::omosd_once;
+use session_calls::omosd_stdio;
 use std::io;
 use std::process::ExitCode;
-
-const USAGE: &str = "usage: omosd once < OBJECT > IMAGE";
-
-const HELP: &str = "usage: omosd once < OBJECT > IMAGE
-
-Reads one ELF64 x86-64 relocatable object on standard input and writes its static
-executable, placed at 0x00400000, on standard output.
-
-  omosd --help      prints this
-  omosd --version   prints the version
-
-Status: 0 the image was written; 1 the object is refused, and the output is the one line
-that says why; 2 the command line is wrong; 3 standard input can't be read; 4 standard
-output can't be written; 8 there is no memory.";
 
 /// Prints a text that was asked for on standard output.
 fn printed(rt: &impl Print, text: &str) -> u8 {
@@ -39,23 +29,42 @@ fn message(status: u8) -> Option<&'static str> {
         2 => Some(USAGE),
         3 => Some("omosd: standard input can't be read"),
         4 => Some("omosd: standard output can't be written"),
+        5 => Some("omosd: the input ends inside a frame, or has bytes that begin none"),
+        6 => Some("omosd: more than 65,536 frames"),
         8 => Some("omosd: no memory"),
+        9 => Some("omosd: no socket"),
         _ => None,
     }
 }
 
-/// Runs `omosd once` over the standard streams.
-fn once(rt: &HostRuntime, words: &[String]) -> u8 {
+/// Links one object, over the standard streams.
+fn link_once(rt: &HostRuntime, words: &[String]) -> u8 {
     let mut source = Reading::new(rt.stdin());
     let mut sink = Writing::new(io::writer(rt));
     omosd_once(rt.alloc(), words, &mut source, &mut sink)
 }
 
+/// Serves one session, over the standard streams.
+fn serve_stdio(rt: &HostRuntime, words: &[String]) -> u8 {
+    let mut source = Reading::new(rt.stdin());
+    let mut sink = Writing::new(io::writer(rt));
+    omosd_stdio(rt.alloc(), words, &mut source, &mut sink)
+}
+
+/// Runs the command that the words begin with.
+fn command(rt: &HostRuntime, words: &[String]) -> u8 {
+    match words.first() {
+        Some(first) if first.as_str() == "stdio" => serve_stdio(rt, words),
+        Some(first) if first.as_str() == "socket" => serve_socket(rt, words),
+        _ => link_once(rt, words),
+    }
+}
+
 fn run(rt: &HostRuntime) -> u8 {
     match words_of(rt) {
-        Ok(words) if is_word(&words, "--help") => printed(rt, HELP),
-        Ok(words) if is_word(&words, "--version") => printed(rt, "omosd 0.1.0"),
-        Ok(words) => once(rt, &words),
+        Ok(words) if is_alone(&words, "--help") => printed(rt, HELP),
+        Ok(words) if is_alone(&words, "--version") => printed(rt, VERSION),
+        Ok(words) => command(rt, &words),
         Err(status) => status,
     }
 }

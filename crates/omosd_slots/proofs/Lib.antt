@@ -1,4 +1,5 @@
-pub mod Served
+pub mod Crosses
+pub mod Visited
 pub mod Linked
 pub mod Seats
 pub mod Runs

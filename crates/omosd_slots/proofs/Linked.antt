@@ -12,7 +12,7 @@ use Rattle.omos_session.specs.Session.{IsSession}
 use Rattle.omosd_slots.specs.Visits.{HasVisit, WasServed}
 use Rattle.omos_session.specs.declared.session.SessionEnd.{SessionEnd}
 use Rattle.omos_session.specs.declared.session.SessionEnd.TheVariants as ending
-use Rattle.omosd_slots.proofs.Served.{served_more, visit_of, cause_of}
+use Rattle.omosd_slots.proofs.Visited.{served_more, visit_of, cause_of}
 use Rattle.omosd_slots.specs.Fits.{WorkerState, Fits, FitsFrom, HasBack, Stands, kept_from, kept_of, told_count, told_before, one_if}
 
 module _ (hub : TableId) (p p' : Knowledge Step) (x y : ℕ) (told told' : Option Stream) (holds holds' : Option (List ℕ)) (sf sf' kf kf' : ℕ) (end : SessionEnd) where

@@ -12,7 +12,7 @@ use Rattle.history_book.specs.declared.step.Step.{Step}
 use Rattle.history_book.specs.Steps.{seat_of}
 use Rattle.history_book.specs.Legal.{IsLegal}
 use Rattle.omos_hub.specs.Passes.{new_pass}
-use Rattle.omosd_slots.proofs.Served.{served_none}
+use Rattle.omosd_slots.proofs.Visited.{served_none}
 use Rattle.omosd_slots.specs.declared.slot.Slot.{Slot}
 use Rattle.omosd_slots.specs.Fits.{WorkerState, Fits, FitsHub, HasBack, kept_of}
 use Rattle.omosd_slots.specs.Slots.{slots_of, SlotState, IsOpen, AreOpen, new_worker, seated_at, seated_from, HasRun, HaveRun}

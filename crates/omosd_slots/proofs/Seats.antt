@@ -1,5 +1,5 @@
 -- Seats that are told one after the other.
-use Rattle.std.proofs.Common.{◌≡◌, ℕ, ◌+◌, ◌<◌, ◌≤◌, List, [], ◌∷◌, ◌++◌, length, get_or, All, refl, sym, ap, ◌∙◌, subst, arith, length-append}
+use Rattle.std.proofs.Common.{◌≡◌, ℕ, ◌+◌, ◌<◌, ◌≤◌, List, [], ◌∷◌, ◌++◌, length, get_or, All, refl, sym, ap, ◌∙◌, subst, absurd, arith, length-append}
 use native.Mathlib.Numerals.{unary_clauses}
 use Rattle.worker_line.specs.Drawn.{Line, Drawn, after_join}
 use Rattle.omosd_slots.specs.Slots.{IsOf, IsTold, TellAll, got_of, missed_of, parts_of, total}
@@ -34,10 +34,14 @@ gathers_next line workers all into rest x xs next g is j =
       parts = omega (arith, c, rc, jc);
     }
 
+pub first_told : (all : List Drawn) (x : Drawn) (xs : List Drawn) → All IsTold all → all ≡ x ∷ xs → IsTold x
+first_told all x xs told is = subst (All IsTold) is told 0 x (omega arith)
+
 -- what the last seat tells is told of all
-pub tells_all : (line : Line) (workers : ℕ) (all : List Drawn) (into : Drawn) → Gathers line workers all into [] → IsTold into
-    → TellAll line workers all
-tells_all line workers all into g t =
+pub tells_all : (line : Line) (workers : ℕ) (all : List Drawn) (into : Drawn) (rest : List Drawn)
+    → Gathers line workers all into rest → length rest ≡ 0 → IsTold into → TellAll line workers all
+tells_all line workers all into (x ∷ xs) g none t = absurd (omega (arith, none))
+tells_all line workers all into [] g none t =
     let same : into.line.sessions ≡ line.sessions = ap (λ (l : Line). l.sessions) g.into_of.0 in
     let count = g.into_of.1 in
     let a = g.got in let b = g.missed in let c = g.parts in

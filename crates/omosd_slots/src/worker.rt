@@ -37,9 +37,13 @@ pub(crate) struct Tally {
 }
 
 impl<'a, R: Wait, D: Door + Drop, G: Gate + Drop> Model for SlotWorker<'a, R, D, G> {
+    ghost use Rattle.omos_model.specs.contracts.expr.Expr as expr;
+    ghost use Rattle.std.specs.Coded.{codes};
     ghost use Rattle.omosd_slots.specs.Fits.{WorkerState};
 
     ghost Value = { WorkerState };
+
+    ghost coded = { Prim.hlevel (codes, expr.the_row.coded) };
 
     ghost view = { λ w. record {
       pass = w.pass;

@@ -1,4 +1,7 @@
-//! The words of the command line.
+//! The words that a program was started with.
+
+ghost use Rattle.std.specs.Prelude.{◌≡◌, map, string_bytes};
+ghost use Rattle.command_words.specs.Words.{is_alone};
 
 use std::env;
 use std::io::ErrorKind;
@@ -6,7 +9,7 @@ use std::rt::Env;
 
 /// The words without the program's name. The error is the status: 8 where there is no memory, and
 /// 2 where a word isn't UTF-8, since such words match nothing.
-pub(crate) fn words_of<R: Env + AllocGlobal>(rt: &R) -> Result<Vec<String>, u8> {
+pub fn words_of<R: Env + AllocGlobal>(rt: &R) -> Result<Vec<String>, u8> {
     let all = match env::args(rt) {
         Ok(all) => all,
         Err(error) if error.kind() == ErrorKind::OutOfMemory => return Err(8),
@@ -21,10 +24,9 @@ pub(crate) fn words_of<R: Env + AllocGlobal>(rt: &R) -> Result<Vec<String>, u8> 
     Ok(words)
 }
 
-/// The words are this one word.
-pub(crate) fn is_word(words: &[String], text: &str) -> bool {
-    match words {
-        [word] => word.as_str() == text,
-        _ => false,
-    }
+/// The words are this one word alone.
+pub fn is_alone(words: &[String], text: &str) -> bool
+    ensures { result ≡ is_alone (map string_bytes words.now) text.now }
+{
+    words.len() == 1 && words[0].as_str() == text
 }

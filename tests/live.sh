@@ -1,0 +1,177 @@
+#!/usr/bin/env bash
+# The real programs, over real sockets and files: a server with four workers, clients beside one
+# another, and clients that behave badly. Ends with 'N passed, M failed'.
+#
+#   usage: tests/live.sh OMOSD OMOS
+set -u
+omosd=$(realpath "$1")
+omos=$(realpath "$2")
+here=$(cd "$(dirname "$0")/.." && pwd)
+work=$(mktemp -d)
+passed=0
+failed=0
+cd "$work" || exit 1
+trap 'kill $(jobs -p) 2> /dev/null; rm -rf "$work"' EXIT
+
+check() { # NAME: the last command's status decides
+  if [ $? -eq 0 ]; then passed=$((passed + 1)); else failed=$((failed + 1)); echo "FAILED: $1"; fi
+}
+
+start() { # SESSIONS: starts a server at ./socket
+  rm -f totals
+  "$omosd" socket ./socket 4 "$1" 16 60000 > totals 2> errors &
+  server=$!
+  for _ in $(seq 200); do [ -S socket ] && return; sleep 0.02; done
+  echo "the server didn't start"
+}
+
+for name in app alloc trace; do
+  gcc -c -ffreestanding -fno-builtin -fno-stack-protector -O2 -o $name.o \
+    "$here/examples/wrapped/$name.c" || exit 1
+done
+
+# ---- one after the other
+
+start 11
+[ "$(stat -c %a socket)" = 600 ]; check "the socket file is its owner's alone"
+[ "$("$omos" ./socket put /app app.o)" = 'published 1' ]; check 'put'
+"$omos" ./socket put /alloc alloc.o > /dev/null; check 'a second put'
+"$omos" ./socket put /trace trace.o > /dev/null; check 'a third put'
+"$omos" ./socket blueprint /traced "$here/examples/wrapped/traced.bp" > /dev/null; check 'blueprint'
+"$omos" ./socket link /traced traced > line; check 'link'
+grep -q '^image version 4 base 0x400000 bytes ' line; check "link's line"
+[ -x traced ] && ./traced | cmp -s - "$here/examples/wrapped/expected.traced"; check 'the image runs'
+[ "$("$omos" ./socket link /nothing none)" = 'refused L1 /nothing 0 /nothing' ]; check "a refusal's line"
+[ ! -e none ]; check 'no file is written on a refusal'
+"$omos" ./socket where /traced | grep -q '^0x400000 '; check 'where'
+[ "$("$omos" ./socket flush /traced)" = 'flushed 1' ]; check 'flush'
+"$omos" ./socket stats > line
+[ "$(cat line)" = 'version 4 paths 4 placements 1 asked 2 hits 0 stored 1 evicted 1 held 0 steps 14' ]
+check 'stats'
+printf '\x01\x00\x00\x00\x09' | timeout 5 python3 -c '
+import socket, sys
+s = socket.socket(socket.AF_UNIX); s.connect("./socket"); s.sendall(sys.stdin.buffer.read())
+assert s.recv(10) == b""' ; check 'rubbish ends its session alone'
+wait $server; check 'the server ends with 0'
+[ "$(cat totals)" = 'sessions 11 requests 10 version 4 placements 1 hits 0 stored 1 evicted 1' ]
+check 'the totals'
+[ ! -e socket ]; check 'the socket file is gone'
+
+# ---- clients that go away, and many of them
+
+start 1004
+timeout 50 python3 - "$work" <<'PY'
+import socket, struct
+def connect():
+    s = socket.socket(socket.AF_UNIX); s.connect("./socket"); return s
+def frame(body): return struct.pack("<I", len(body)) + body
+cut = connect(); cut.sendall(frame(b"\x05")[:3]); cut.close()
+lazy = connect(); lazy.sendall(frame(b"\x05") * 2000); lazy.close()
+half = connect(); half.sendall(frame(b"\x02\x02\x00/p" + b"x" * 100)[:50]); half.close()
+silent = connect(); silent.close()
+for k in range(1000):
+    s = connect(); s.sendall(frame(b"\x05") + frame(b"\x07"))
+    data = b""
+    while len(data) < 82:
+        more = s.recv(100)
+        assert more, "a session ended early"
+        data += more
+    assert data[:5] == b"\x49\0\0\0\x85" and data[77:] == b"\x01\0\0\0\x87"
+    s.close()
+PY
+check '1,000 connections, behind clients that went away'
+wait $server; check 'the server outlives them'
+grep -q '^sessions 1004 ' totals; check 'it counts them all'
+
+# ---- sixteen at once
+
+start 17
+for name in app alloc trace; do :; done
+timeout 50 python3 - app.o alloc.o <<'PY'
+import socket, struct, sys, threading
+def connect():
+    s = socket.socket(socket.AF_UNIX); s.connect("./socket"); return s
+def frame(body): return struct.pack("<I", len(body)) + body
+def path(name): return struct.pack("<H", len(name)) + name
+def read(s, n):
+    data = b""
+    while len(data) < n:
+        more = s.recv(n - len(data))
+        assert more, "the server went away"
+        data += more
+    return data
+def ask(s, body):
+    s.sendall(frame(body))
+    reply = read(s, struct.unpack("<I", read(s, 4))[0])
+    return reply[0], reply[1:]
+app, alloc = (open(name, "rb").read() for name in sys.argv[1:])
+text = b"(image (merge /app /alloc))"
+first = connect()
+assert ask(first, b"\x01" + path(b"/app") + app)[0] == 129
+assert ask(first, b"\x01" + path(b"/alloc") + alloc)[0] == 129
+assert ask(first, b"\x02" + path(b"/both") + text)[0] == 129
+kind, plain = ask(first, b"\x03" + path(b"/both"))
+assert kind == 130
+image = plain[16:]
+wrong = []
+published = []
+placed = {}
+lock = threading.Lock()
+def work(k):
+    try:
+        s = connect()
+        own = b"/own/%d" % k
+        seen = 0
+        for i in range(25):
+            kind, v = ask(s, b"\x02" + path(own) + text)
+            assert kind == 129
+            version = struct.unpack("<Q", v)[0]
+            assert version > seen, "versions rise"
+            seen = version
+            with lock: published.append(version)
+            kind, r = ask(s, b"\x03" + path(own))
+            assert kind == 130
+            at, base = struct.unpack("<QQ", r[:16])
+            assert at >= seen, "a link sees what its session published"
+            with lock: placed.setdefault(own, base)
+            assert placed[own] == base, "a place is kept"
+            kind, r = ask(s, b"\x03" + path(b"/both"))
+            assert kind == 130 and r[16:] == image, "the image is the same"
+            kind, r = ask(s, b"\x05")
+            assert kind == 133
+        assert ask(s, b"\x07")[0] == 135
+        s.close()
+    except Exception as error:
+        wrong.append((k, error))
+threads = [threading.Thread(target=work, args=(k,)) for k in range(16)]
+for t in threads: t.start()
+assert ask(first, b"\x07")[0] == 135
+first.close()
+for t in threads: t.join()
+assert not wrong, wrong
+assert sorted(published) == list(range(4, 404)), "each publish made a version of its own"
+assert len(set(placed.values())) == 16, "no two paths share a place"
+PY
+check 'sixteen clients with a hundred requests each'
+wait $server; check 'the server ends with 0 behind them'
+grep -q '^sessions 17 requests 1604 version 403 placements 17 ' totals; check 'their totals'
+
+# ---- sockets
+
+"$omos" ./socket stats 2> errors; [ $? -eq 9 ]; check 'no server'
+"$omosd" socket ./nowhere/socket 1 1 1 16 2> errors; [ $? -eq 9 ] && grep -q 'no socket' errors
+check 'a socket that no folder holds'
+echo file > socket
+"$omosd" socket ./socket 1 1 1 16 2> errors; [ $? -eq 9 ] && grep -q file socket
+check 'a file is not replaced'
+rm socket
+python3 -c 'import socket; s = socket.socket(socket.AF_UNIX); s.bind("./socket")'
+start 1
+"$omos" ./socket stats > line; check 'a socket file that was left behind is replaced'
+wait $server
+
+"$omos" ./socket link /p 2> errors; [ $? -eq 2 ]; check 'usage of the client'
+"$omosd" socket ./socket 17 1 1 16 2> errors; [ $? -eq 2 ]; check 'usage of the server'
+
+echo "$passed passed, $failed failed"
+[ $failed -eq 0 ]
