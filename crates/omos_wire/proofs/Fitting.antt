@@ -16,7 +16,8 @@ use Rattle.omos_model.specs.declared.refusal.ObjectFault.{ObjectFault}
 use Rattle.omos_model.specs.declared.refusal.ObjectFault.TheVariants as object
 use Rattle.omos_model.specs.declared.refusal.Refusal.{Refusal}
 use Rattle.omos_model.specs.declared.refusal.Refusal.TheVariants as link
-use Rattle.omos_wire.specs.Answer.{Answer, HasValues, IsField, IsReplyFrame, Published, Image, Refused, Places, Counts, Flushed, Bye, NoMemory, Full, KeptFull, flag, payload, reply_frame, span_bytes}
+use Rattle.omos_wire.specs.Answer.{Answer, HasValues, IsReplyFrame, Published, Image, Refused, Places, Counts, Flushed, Bye, NoMemory, Full, KeptFull, flag, payload, reply_frame, span_bytes}
+use Rattle.refusal_lines.specs.Codes.{IsField}
 use Rattle.omos_wire.specs.Fielded.{field_bytes}
 use Rattle.refusal_lines.specs.Codes.{Field, Number, Wide, Path, Symbol, link_row, object_row, path_row, row_of, text_row}
 use Rattle.omos_wire.specs.Fielded.{field}

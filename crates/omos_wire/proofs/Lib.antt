@@ -6,3 +6,4 @@ pub mod Stuck
 pub mod Taken
 pub mod Fitting
 pub mod OneReply
+pub mod Sizes

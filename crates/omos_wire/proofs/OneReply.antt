@@ -18,7 +18,8 @@ use Rattle.omos_model.specs.declared.refusal.Site.{Site}
 use Rattle.refusal_lines.specs.Codes.{Field, Number, Wide, Path, Symbol, link_row, object_row, path_row, row_of, text_row}
 use Rattle.refusal_lines.specs.declared.refused.Refused.{Refused as Reason}
 use Rattle.refusal_lines.specs.declared.refused.Refused.TheVariants as code
-use Rattle.omos_wire.specs.Answer.{Answer, HasValues, IsField, IsReplyFrame, IsSpan, Published, Image, Refused, Places, Counts, Flushed, Bye, NoMemory, Full, KeptFull, flag, payload, reply_frame, span_bytes}
+use Rattle.omos_wire.specs.Answer.{Answer, HasValues, IsReplyFrame, IsSpan, Published, Image, Refused, Places, Counts, Flushed, Bye, NoMemory, Full, KeptFull, flag, payload, reply_frame, span_bytes}
+use Rattle.refusal_lines.specs.Codes.{IsField}
 use Rattle.omos_wire.specs.Fielded.{field, field_bytes}
 use Rattle.omos_wire.specs.Reading.{Form, form_of, link_forms, object_forms, path_forms, text_forms, text_size}
 use Rattle.omos_wire.specs.Reading as form

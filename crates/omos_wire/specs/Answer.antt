@@ -3,10 +3,8 @@ use Rattle.std.specs.Prelude.{◌≡◌, ℕ, ◌+◌, ◌*◌, ◌≤◌, ◌<�
 use Rattle.std.specs.Prelude.{◌++◌, length, map}
 use Rattle.std.specs.List.{AllByRecursion, flat_map}
 use Rattle.omos_base.specs.Endian.{little_bytes}
-use Rattle.omos_base.specs.Paths.{IsPath}
-use Rattle.omos_base.specs.SymNames.{IsSymName}
 use Rattle.omos_wire.specs.Fielded.{coded_bytes}
-use Rattle.refusal_lines.specs.Codes.{Field, Number, Wide, Path, Symbol, row_of}
+use Rattle.refusal_lines.specs.Codes.{IsField, row_of}
 use Rattle.hub_store.specs.declared.counts.Counts.{Counts as Totals}
 use Rattle.omos_model.specs.declared.placement.Placement.{Placement}
 use Rattle.omos_wire.specs.declared.span.Span.{Span}
@@ -78,13 +76,7 @@ reply_frame a = little_bytes 4 (length (payload a)) ++ payload a
 
 -- ---- what a frame can hold
 
--- a number has its bytes; a path is one, and so is a name
-abbrev pub IsField : Field → Type 0
-IsField (Number n) = n < 2 ^ 32
-IsField (Wide n) = n < 2 ^ 64
-IsField (Path path) = IsPath path
-IsField (Symbol name) = IsSymName name
-
+-- a number has its bytes
 abbrev pub IsSpan : Span → Type 0
 IsSpan s = (s.base < 2 ^ 64) × (s.pages < 2 ^ 32)
 
@@ -115,3 +107,7 @@ pub record IsReplyFrame (bytes : List ℕ) (a : Answer) : Type 0 where
   pub frame : bytes ≡ reply_frame a
   pub size : length (payload a) ≤ longest_reply
   pub values : HasValues a
+
+-- its own frame is one that it is read back from
+abbrev pub IsReadable : Answer → Type 0
+IsReadable a = IsReplyFrame (reply_frame a) a

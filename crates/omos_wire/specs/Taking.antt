@@ -5,7 +5,7 @@ use Rattle.omos_base.specs.Fields.{number_at}
 use Rattle.std.specs.List.{AllByRecursion, flat_map}
 use Rattle.omos_base.specs.Paths.{IsPath}
 use Rattle.omos_model.specs.declared.refusal.Site.{Site}
-use Rattle.omos_wire.specs.Answer.{IsField}
+use Rattle.refusal_lines.specs.Codes.{IsField}
 use Rattle.omos_wire.specs.Fielded.{field_bytes}
 use Rattle.refusal_lines.specs.Codes.{Coded, Field}
 use Rattle.omos_wire.specs.Fielded.{field}

@@ -1,12 +1,13 @@
 //! The frame of a refusal, in place.
 
 ghost use Rattle.std.specs.Prelude.{◌≡◌, ◌+◌, ◌≤◌, ◌++◌, length};
-ghost use Rattle.std.specs.List.{flat_map};
+ghost use Rattle.std.specs.List.{AllByRecursion, flat_map};
 ghost use Rattle.arrayvec.specs.ArrayVec.{array_vec_len};
 ghost use Rattle.omos_wire.specs.Answer.{reply_frame};
 ghost use Rattle.omos_wire.specs.Answer as answer;
 ghost use Rattle.omos_wire.specs.Fielded.{field, field_bytes};
-ghost use Rattle.refusal_lines.specs.Rows.{field_in, fields_in, AreShort, IsShort};
+ghost use Rattle.refusal_lines.specs.Codes.{IsField};
+ghost use Rattle.refusal_lines.specs.Rows.{field_in, fields_in};
 
 use crate::heads::put;
 use arrayvec::ArrayVec;
@@ -28,7 +29,7 @@ fn put_text(bytes: &mut Long, text: &[u8])
 }
 
 fn put_field(bytes: &mut Long, field: &Field<'_>)
-    requires short { IsShort field.now }
+    requires value { IsField (field_in field.now) }
     requires room { array_vec_len bytes.old + 1026 ≤ 3088 }
     ensures items { bytes.new.items ≡ bytes.old.items ++ field_bytes (field_in field.now) }
     ensures len { array_vec_len bytes.new ≤ array_vec_len bytes.old + 1026 }
@@ -42,7 +43,7 @@ fn put_field(bytes: &mut Long, field: &Field<'_>)
 }
 
 fn put_fields(bytes: &mut Long, fields: &Fields<'_>)
-    requires short { AreShort fields.now }
+    requires values { AllByRecursion IsField (fields_in fields.now) }
     requires room { array_vec_len bytes.old ≤ 6 }
     ensures { bytes.new.items
         ≡ bytes.old.items ++ flat_map field_bytes (fields_in fields.now) }
@@ -62,8 +63,9 @@ fn put_fields(bytes: &mut Long, fields: &Fields<'_>)
     }
 }
 
+/// How many bytes a field takes.
 fn size_of(field: &Field<'_>) -> u32
-    requires { IsShort field.now }
+    requires { IsField (field_in field.now) }
     ensures size { result ≡ length (field_bytes (field_in field.now)) }
     ensures few { result ≤ 1026 }
 {
@@ -75,8 +77,9 @@ fn size_of(field: &Field<'_>) -> u32
     }
 }
 
-fn size_of_all(fields: &Fields<'_>) -> u32
-    requires { AreShort fields.now }
+/// How many bytes the fields take.
+pub(crate) fn size_of_all(fields: &Fields<'_>) -> u32
+    requires { AllByRecursion IsField (fields_in fields.now) }
     ensures size { result ≡ length (flat_map field_bytes (fields_in fields.now)) }
     ensures few { result ≤ 3078 }
 {

@@ -2,13 +2,10 @@
 //! the top call of the crate `omosd_calls` and ends with its status.
 #![tactic(auto)]
 
-mod reading;
 mod words;
-mod writing;
 
-use crate::reading::Reading;
 use crate::words::{is_word, words_of};
-use crate::writing::Writing;
+use omos_adapt::{Reading, Writing};
 use omosd_calls::omosd_once;
 use std::io;
 use std::process::ExitCode;

@@ -1,7 +1,6 @@
 pub mod Determined
 pub mod Endings
 pub mod Images
-pub mod Known
 pub mod ObjectPath
 pub mod OneWord
 pub mod Piece

@@ -5,7 +5,8 @@ use Rattle.omosd_calls.specs.declared.ending.Ending.{Ending}
 use Rattle.omosd_calls.specs.declared.ending.Ending.TheVariants.{Done, Refused, Usage, SourceFailed, SinkFailed, NoMemory}
 use Rattle.omosd_calls.specs.declared.cause.Cause.{Cause}
 use Rattle.omosd_calls.specs.Lone.{IsImage, IsRefusal, cause_line}
-use Rattle.omosd_calls.specs.Output.{HasWritten, HasWrittenPart, WrotePart}
+use Rattle.omos_outside.specs.Sent.{WrotePart}
+use Rattle.omosd_calls.specs.Output.{HasWritten, HasWrittenPart}
 
 -- the file's image, or the line of its refusal
 abbrev pub IsOutput : List ℕ → List ℕ → Type 0

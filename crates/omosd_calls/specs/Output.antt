@@ -1,10 +1,7 @@
 -- What a run writes.
-use Rattle.std.specs.Prelude.{ℕ, ◌<◌, List, length, take, Option, None, Some}
+use Rattle.std.specs.Prelude.{ℕ, List, Option, None, Some}
 use Rattle.std.specs.Io.KnownBytes.{Appends}
-
--- the sink took some of the bytes from their front, and not all
-abbrev pub WrotePart : Option (List ℕ) → Option (List ℕ) → List ℕ → Type 0
-WrotePart before now bytes = (count : ℕ) × (count < length bytes) × Appends before now (take count bytes)
+use Rattle.omos_outside.specs.Sent.{WrotePart}
 
 -- an output for which this holds was written
 abbrev pub HasWritten : Option (List ℕ) → Option (List ℕ) → (List ℕ → Type 0) → Type 0

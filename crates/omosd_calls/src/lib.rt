@@ -8,6 +8,5 @@ mod lone;
 mod once;
 mod reading;
 mod words;
-mod writing;
 
 pub use once::omosd_once;

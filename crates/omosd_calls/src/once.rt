@@ -13,9 +13,8 @@ use crate::ending::Ending;
 use crate::lone::lone_image;
 use crate::reading::{Unread, read_file};
 use crate::words::is_once;
-use crate::writing::write_all;
 use omos_base::Fault;
-use omos_outside::{Sink, Source};
+use omos_outside::{Sent, Sink, Source, write_all};
 use std::alloc::Global;
 
 /// Writes the line that says why a file has no image.
@@ -26,8 +25,8 @@ fn write_line<K: Sink>(cause: &Cause, sink: &mut K) -> Ending
     ensures no_memory { result ≡ Ending.NoMemory → sink.new ≡ sink.old }
 {
     match write_all(sink, line_of(cause).as_slice()) {
-        Ok(()) => Ending::Refused,
-        Err(_) => Ending::SinkFailed,
+        Sent::All => Ending::Refused,
+        Sent::Failed => Ending::SinkFailed,
     }
 }
 
@@ -40,8 +39,8 @@ fn answer_file<K: Sink>(alloc: Global, file: &[u8], sink: &mut K) -> Ending
 {
     match lone_image(alloc, file) {
         Ok(image) => match write_all(sink, image.as_slice()) {
-            Ok(()) => Ending::Done,
-            Err(_) => Ending::SinkFailed,
+            Sent::All => Ending::Done,
+            Sent::Failed => Ending::SinkFailed,
         },
         Err(Fault::Refused(cause)) => write_line(&cause, sink),
         Err(Fault::NoMemory) => Ending::NoMemory,

@@ -1,6 +1,8 @@
 -- The table of refusals: the name that a line prints, the code that a frame has, and the fields.
-use Rattle.std.specs.Prelude.{ℕ, List, [], ◌∷◌, ◌++◌, codes, decimal}
+use Rattle.std.specs.Prelude.{ℕ, ◌^◌, ◌<◌, List, [], ◌∷◌, ◌++◌, codes, decimal}
 use Rattle.std.specs.List.{flat_map}
+use Rattle.omos_base.specs.Paths.{IsPath}
+use Rattle.omos_base.specs.SymNames.{IsSymName}
 use Rattle.omos_base.specs.declared.path_name.PathFault.{PathFault}
 use Rattle.omos_base.specs.declared.path_name.PathFault.TheVariants as path
 use Rattle.omos_model.specs.declared.refusal.Site.{Site}
@@ -19,6 +21,13 @@ pub data Field : Type 0 where
   Wide : ℕ → Field
   Path : List ℕ → Field
   Symbol : List ℕ → Field
+
+-- a number has its bits; a path is one, and so is a name
+abbrev pub IsField : Field → Type 0
+IsField (Number n) = n < 2 ^ 32
+IsField (Wide n) = n < 2 ^ 64
+IsField (Path path) = IsPath path
+IsField (Symbol name) = IsSymName name
 
 -- a row of the table
 pub record Coded : Type 0 where

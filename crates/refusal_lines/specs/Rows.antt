@@ -1,7 +1,8 @@
 -- A row of the table of refusals, as the code has it.
 use Rattle.std.specs.Prelude.{◌≤◌, List, [], ◌∷◌, length}
+use Rattle.std.specs.List.{AllByRecursion}
 use Rattle.refusal_lines.specs.Codes as codes
-use Rattle.refusal_lines.specs.Codes.{Coded, coded}
+use Rattle.refusal_lines.specs.Codes.{Coded, IsField, coded}
 use Rattle.refusal_lines.specs.declared.row.Field.{Field}
 use Rattle.refusal_lines.specs.declared.row.Field.TheVariants as field
 use Rattle.refusal_lines.specs.declared.row.Fields.{Fields}
@@ -23,20 +24,7 @@ fields_in (fields.Three a b c) = field_in a ∷ field_in b ∷ field_in c ∷ []
 abbrev pub coded_in : Row → Coded
 coded_in r = coded r.name.now r.code (fields_in r.fields)
 
--- a path or a name has at most 1,024 bytes
-abbrev pub IsShort : Field → Type 0
-IsShort (field.Number n) = Unit {0}
-IsShort (field.Wide n) = Unit {0}
-IsShort (field.Path path) = length path.now ≤ 1024
-IsShort (field.Symbol name) = length name.now ≤ 1024
-
-abbrev pub AreShort : Fields → Type 0
-AreShort fields.None = Unit {0}
-AreShort (fields.One a) = IsShort a
-AreShort (fields.Two a b) = IsShort a × IsShort b
-AreShort (fields.Three a b c) = IsShort a × IsShort b × IsShort c
-
--- a row fits what it is put into
-pub record IsShortRow (r : Row) : Type 0 where
+-- a row fits what it is put into: its name is short, and its fields are what they are said to be
+pub record IsRow (r : Row) : Type 0 where
   pub name : length r.name.now ≤ 3
-  pub fields : AreShort r.fields
+  pub fields : AllByRecursion IsField (fields_in r.fields)

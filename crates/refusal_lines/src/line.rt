@@ -1,11 +1,10 @@
 //! A line in place.
 
 ghost use Rattle.std.specs.Prelude.{◌≡◌, ◌+◌, ◌≤◌, ◌∷◌, [], ◌++◌, length, decimal};
-ghost use Rattle.std.specs.List.{flat_map};
+ghost use Rattle.std.specs.List.{AllByRecursion, flat_map};
 ghost use Rattle.arrayvec.specs.ArrayVec.{array_vec_len};
-ghost use Rattle.refusal_lines.specs.Codes.{coded_line, field_text};
-ghost use Rattle.refusal_lines.specs.Rows.{coded_in, field_in, fields_in};
-ghost use Rattle.refusal_lines.specs.Rows.{AreShort, IsShort, IsShortRow};
+ghost use Rattle.refusal_lines.specs.Codes.{coded_line, field_text, IsField};
+ghost use Rattle.refusal_lines.specs.Rows.{coded_in, field_in, fields_in, IsRow};
 
 use crate::row::{Field, Fields, Row};
 use arrayvec::ArrayVec;
@@ -70,7 +69,7 @@ fn put_number(line: &mut Text, number: u64)
 
 /// Appends a space and the field.
 fn put_field(line: &mut Text, field: &Field<'_>)
-    requires short { IsShort field.now }
+    requires value { IsField (field_in field.now) }
     requires room { array_vec_len line.old + 1025 ≤ 3088 }
     ensures items { line.new.items ≡ line.old.items ++ 32 ∷ field_text (field_in field.now) }
     ensures len { array_vec_len line.new ≤ array_vec_len line.old + 1025 }
@@ -85,7 +84,7 @@ fn put_field(line: &mut Text, field: &Field<'_>)
 
 /// Appends the fields, each after a space.
 fn put_fields(line: &mut Text, fields: &Fields<'_>)
-    requires short { AreShort fields.now }
+    requires values { AllByRecursion IsField (fields_in fields.now) }
     requires room { array_vec_len line.old ≤ 11 }
     ensures items { line.new.items
         ≡ line.old.items ++ flat_map (λ f. 32 ∷ field_text f) (fields_in fields.now) }
@@ -108,7 +107,7 @@ fn put_fields(line: &mut Text, fields: &Fields<'_>)
 
 /// The line of a row.
 pub(crate) fn line_of_row(row: &Row<'_>) -> Line
-    requires { IsShortRow row.now }
+    requires { IsRow row.now }
     ensures { result ≡ coded_line (coded_in row.now) }
 {
     let mut text = Text::new();

@@ -1,10 +1,10 @@
 //! The table of refusals: name, code and fields of each.
 
-ghost use Rattle.std.specs.Prelude.{◌≡◌, ◌≤◌, ◌∷◌, [], length};
+ghost use Rattle.std.specs.Prelude.{◌≡◌, ◌^◌, ◌<◌, ◌≤◌, ◌∷◌, [], length};
 ghost use Rattle.refusal_lines.specs.Codes.{coded, path_row, object_row, text_row, link_row};
-ghost use Rattle.refusal_lines.specs.Codes.{row_of};
+ghost use Rattle.refusal_lines.specs.Codes.{row_of, IsField};
 ghost use Rattle.refusal_lines.specs.Codes as table;
-ghost use Rattle.refusal_lines.specs.Rows.{coded_in, field_in, IsShort, IsShortRow};
+ghost use Rattle.refusal_lines.specs.Rows.{coded_in, field_in, IsRow};
 
 use crate::refused::Refused;
 use crate::row::{Field, Fields, Row};
@@ -15,7 +15,7 @@ use omos_model::{BpFault, ObjectFault, Refusal, Site};
 fn plain<'a>(name: &'static [u8], code: u8) -> Row<'a>
     requires { length name.now ≤ 3 }
     ensures row { coded_in result ≡ coded name.now code [] }
-    ensures short { IsShortRow result }
+    ensures fits { IsRow result }
 {
     Row {
         name,
@@ -28,7 +28,7 @@ fn plain<'a>(name: &'static [u8], code: u8) -> Row<'a>
 fn numbered<'a>(name: &'static [u8], code: u8, number: u32) -> Row<'a>
     requires { length name.now ≤ 3 }
     ensures row { coded_in result ≡ coded name.now code (table.Number number ∷ []) }
-    ensures short { IsShortRow result }
+    ensures fits { IsRow result }
 {
     Row {
         name,
@@ -42,7 +42,7 @@ fn paired<'a>(name: &'static [u8], code: u8, first: u32, second: u32) -> Row<'a>
     requires { length name.now ≤ 3 }
     ensures row { coded_in result
         ≡ coded name.now code (table.Number first ∷ table.Number second ∷ []) }
-    ensures short { IsShortRow result }
+    ensures fits { IsRow result }
 {
     Row {
         name,
@@ -55,7 +55,7 @@ fn paired<'a>(name: &'static [u8], code: u8, first: u32, second: u32) -> Row<'a>
 fn named<'a>(name: &'static [u8], code: u8, symbol: &'a SymName) -> Row<'a>
     requires { length name.now ≤ 3 }
     ensures row { coded_in result ≡ coded name.now code (table.Symbol symbol.now ∷ []) }
-    ensures short { IsShortRow result }
+    ensures fits { IsRow result }
 {
     Row {
         name,
@@ -69,7 +69,7 @@ fn sited_name<'a>(name: &'static [u8], code: u8, site: &'a Site, symbol: &'a Sym
     requires { length name.now ≤ 3 }
     ensures row { coded_in result
         ≡ coded name.now code (table.sited site.now (table.Symbol symbol.now ∷ [])) }
-    ensures short { IsShortRow result }
+    ensures fits { IsRow result }
 {
     sited(name, code, site, Field::Symbol(symbol.as_bytes()))
 }
@@ -79,7 +79,7 @@ fn sited_path<'a>(name: &'static [u8], code: u8, site: &'a Site, path: &'a PathN
     requires { length name.now ≤ 3 }
     ensures row { coded_in result
         ≡ coded name.now code (table.sited site.now (table.Path path.now ∷ [])) }
-    ensures short { IsShortRow result }
+    ensures fits { IsRow result }
 {
     sited(name, code, site, Field::Path(path.as_bytes()))
 }
@@ -87,11 +87,12 @@ fn sited_path<'a>(name: &'static [u8], code: u8, site: &'a Site, path: &'a PathN
 /// A site, and a field behind it.
 fn sited<'a>(name: &'static [u8], code: u8, site: &'a Site, field: Field<'a>) -> Row<'a>
     requires name { length name.now ≤ 3 }
-    requires short { IsShort field }
+    requires value { IsField (field_in field) }
     ensures row { coded_in result
         ≡ coded name.now code (table.sited site.now (field_in field.entry ∷ [])) }
-    ensures short { IsShortRow result }
+    ensures fits { IsRow result }
 {
+    fits_u32(site.node);
     let path = Field::Path(site.path.as_bytes());
     Row {
         name,
@@ -100,10 +101,30 @@ fn sited<'a>(name: &'static [u8], code: u8, site: &'a Site, field: Field<'a>) ->
     }
 }
 
+/// That a number has 32 bits.
+fn fits_u32(number: u32)
+    ensures { number < 2 ^ 32 }
+{}
+
+/// A site alone.
+fn only_site<'a>(name: &'static [u8], code: u8, site: &'a Site) -> Row<'a>
+    requires { length name.now ≤ 3 }
+    ensures row { coded_in result ≡ coded name.now code (table.sited site.now []) }
+    ensures fits { IsRow result }
+{
+    fits_u32(site.node);
+    let path = Field::Path(site.path.as_bytes());
+    Row {
+        name,
+        code,
+        fields: Fields::Two(path, Field::Number(site.node)),
+    }
+}
+
 /// The row of a path that is none.
 pub fn path_row<'a>(fault: PathFault) -> Row<'a>
     ensures row { coded_in result ≡ path_row fault }
-    ensures short { IsShortRow result }
+    ensures fits { IsRow result }
 {
     match fault {
         PathFault::Long => plain(b"P1", 1),
@@ -114,7 +135,7 @@ pub fn path_row<'a>(fault: PathFault) -> Row<'a>
 /// The row of an object file with a fault.
 pub fn object_row(fault: &ObjectFault) -> Row<'_>
     ensures row { coded_in result ≡ object_row fault.now }
-    ensures short { IsShortRow result }
+    ensures fits { IsRow result }
 {
     match fault {
         ObjectFault::Length => plain(b"O1", 11),
@@ -134,7 +155,7 @@ pub fn object_row(fault: &ObjectFault) -> Row<'_>
 /// The row of a text that is none.
 pub fn text_row<'a>(fault: BpFault) -> Row<'a>
     ensures row { coded_in result ≡ text_row fault }
-    ensures short { IsShortRow result }
+    ensures fits { IsRow result }
 {
     match fault {
         BpFault::Long => plain(b"B1", 31),
@@ -149,20 +170,13 @@ pub fn text_row<'a>(fault: BpFault) -> Row<'a>
 /// The row of a link that has no image.
 pub fn link_row(refusal: &Refusal) -> Row<'_>
     ensures row { coded_in result ≡ link_row refusal.now }
-    ensures short { IsShortRow result }
+    ensures fits { IsRow result }
 {
     match refusal {
         Refusal::NoEntry { site, path } => sited_path(b"L1", 41, site, path),
         Refusal::Cycle { site, path } => sited_path(b"L2", 42, site, path),
         Refusal::TooDeep { site, path } => sited_path(b"L3", 43, site, path),
-        Refusal::TooLarge { site } => {
-            let path = Field::Path(site.path.as_bytes());
-            Row {
-                name: b"L4",
-                code: 44,
-                fields: Fields::Two(path, Field::Number(site.node)),
-            }
-        }
+        Refusal::TooLarge { site } => only_site(b"L4", 44, site),
         Refusal::Conflict { site, name } => sited_name(b"L5", 45, site, name),
         Refusal::NoName { site, name } => sited_name(b"L6", 46, site, name),
         Refusal::NoDefinition { site, name } => sited_name(b"L7", 47, site, name),
@@ -193,7 +207,7 @@ pub fn link_row(refusal: &Refusal) -> Row<'_>
 /// The row of what is refused.
 pub fn row_of(refused: &Refused) -> Row<'_>
     ensures row { coded_in result ≡ row_of refused.now }
-    ensures short { IsShortRow result }
+    ensures fits { IsRow result }
 {
     match refused {
         Refused::Path(fault) => path_row(*fault),
