@@ -1,5 +1,5 @@
-//! Takes turns in a lock, for bench/lock.sh: `turn_bench THREADS TURNS` has so many threads, at most
-//! 16, take so many turns each, at most 100,000,000. It prints how many turns there were in all.
+//! Takes turns in a lock, for bench/lock.sh: `turn_bench THREADS TURNS` has so many threads, at
+//! most 16, take so many turns each, at most 100,000,000. It prints how many there were in all.
 #![tactic(auto)]
 
 mod counter;
