@@ -7,8 +7,8 @@ use omos_outside::{Came, Door};
 use std::io::{Error, ErrorKind, Result};
 use std::os::unix::net::UnixListener;
 
-/// A listening socket, whose links are its connections. It never shuts, and tells none of its links.
-/// A link is closed where it is given back.
+/// A listening socket, whose links are its connections. It never shuts, and tells none of its
+/// links. A link is closed where it is given back.
 #[derive(Drop)]
 pub struct SocketDoor {
     listener: UnixListener,

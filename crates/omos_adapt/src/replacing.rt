@@ -1,5 +1,5 @@
-//! Writes a file beside the one that it is to replace, and moves it into its place, so that a failure
-//! leaves the old file whole and no other file behind.
+//! Writes a file beside the one that it is to replace, and moves it into its place, so that a
+//! failure leaves the old file whole and no other file behind.
 //!
 //! The new file keeps the old one's mode, but not its owner, its other names or its times; and
 //! nothing is said of a machine that loses its power.
@@ -74,8 +74,8 @@ fn finish<R: Files>(
     fs::rename(rt, beside, path)
 }
 
-/// Writes the bytes to what stands at the path and is no file: a device, a pipe, or a link to a file
-/// that isn't there.
+/// Writes the bytes to what stands at the path and is no file: a device, a pipe, or a link to a
+/// file that isn't there.
 pub(crate) fn write_in_place<R: Files>(rt: &R, path: &str, bytes: &[u8]) -> Result<()> {
     let mut how = OpenOptions::new();
     how.write(true).create(true);

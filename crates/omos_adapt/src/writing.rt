@@ -5,8 +5,8 @@ ghost use Rattle.std.specs.Prelude.{◌≡◌, ◌≤◌, length, IfOk, None};
 use omos_outside::{Sink, Took};
 use std::io::{Error, ErrorKind, Result, Write};
 
-/// A writer, with a count of its failures. A write that was interrupted is tried again, and one that
-/// takes nothing is a failure.
+/// A writer, with a count of its failures. A write that was interrupted is tried again, and one
+/// that takes nothing is a failure.
 #[derive(Drop)]
 pub struct Writing<W: Write + Drop> {
     inner: W,
