@@ -5,7 +5,9 @@ FRAGMENT := crates/omos_fragment/out/omos_fragment
 
 LINK_CASES := crates/link_cases/out/link_cases
 
-.PHONY: help build demo examples real links sweep bench clean
+STORE_CASES := crates/store_cases/out/store_cases
+
+.PHONY: help build demo examples real links stores sweep bench clean
 
 help:
 	@echo "make build   proves omosd and builds it as $(OMOSD)"
@@ -13,7 +15,7 @@ help:
 	@echo "make examples  the same, and compares what each prints"
 	@echo "make real    compares what is kept of compilers' objects with readelf, and runs with ld's"
 	@echo "make sweep   compares links of some 8,000 blueprints with plain descent through names,"
-	@echo "             and 4,000 texts with a slow reader of the grammar"
+	@echo "             4,000 texts with a slow reader of the grammar, and versions with plain lists"
 	@echo "make bench   times it beside other linkers, and counts instructions"
 	@echo "rt ci        proves and tests everything: the test command"
 
@@ -42,16 +44,25 @@ links:
 	@cd crates/link_cases/data && ../out/link_cases > ../out.log && cmp ../out.log ../stdout
 	@rm -f crates/link_cases/out.log
 
+stores:
+	@rm -f $(STORE_CASES)
+	@cd crates/store_cases && rt run > out.log 2>&1; test -x out/store_cases || { tail -n 20 out.log; exit 1; }
+	@cd crates/store_cases/data && ../out/store_cases > ../out.log && cmp ../out.log ../stdout
+	@rm -f crates/store_cases/out.log
+
 sweep: links
 	@tests/sweep.py $(LINK_CASES)
 	@tests/texts.py $(LINK_CASES)
+	@tests/versions.py $(LINK_CASES)
 
-bench: build links
+bench: build links stores
 	@bench/once.sh $(OMOSD)
 	@bench/objects.sh $(OMOSD)
 	@bench/operators.sh $(LINK_CASES)
 	@bench/evaluate.sh $(LINK_CASES)
 	@bench/text.sh $(LINK_CASES)
+	@bench/publish.sh $(LINK_CASES)
+	@bench/store.sh $(STORE_CASES)
 
 clean:
 	rm -rf crates/*/out

@@ -12,26 +12,38 @@ MORE=64
 paths() { # COUNT: the case that publishes so many paths, and lists them
     python3 - "$1" << 'END'
 import random, sys
-numbers = list(range(100000, 100000 + int(sys.argv[1])))
+numbers = list(range(100000, 200000))
 random.Random(1).shuffle(numbers)
-stamps = {f"/p{number}": stamp for stamp, number in enumerate(numbers, 1)}
+stamps = {f"/p{number}": stamp for stamp, number in enumerate(numbers[: int(sys.argv[1])], 1)}
 text = " & ".join(f"{path} (image /a)" for path in stamps)
 wanted = "".join(f"{path} {stamps[path]}\\n" for path in sorted(stamps))
 print(f"{len(stamps)} paths | {text} | list | text {wanted}")
 END
 }
 
-allocations() { # of the last count
-    awk '/^cfn=/ { callee = $0 } /^calls=/ && callee ~ /malloc|realloc/ { split($1, n, "="); sum += n[2] }
-         /^cfn=\([0-9]+\) / { names[$1] = $2 } END { print sum + 0 }' out
+allocations() { # inside the calls of the last count
+    python3 - << 'END'
+import re
+names, callee, total = {}, None, 0
+for line in open("out"):
+    named = re.match(r"c?fn=\((\d+)\)(?: (.*))?", line)
+    if named:
+        names[named[1]] = named[2] or names[named[1]]
+        callee = names[named[1]] if line[0] == "c" else None
+    elif line.startswith("calls=") and callee in ("rattle_alloc", "rattle_realloc"):
+        total += int(line[6:].split()[0])
+print(total)
+END
 }
 
 for count in 4096 65536; do
     paths "$count" > cases.txt
     fewer=$(inside name_tree::snap::Snap::with)
+    fewer_made=$(allocations)
     fewer_got=$(inside name_tree::snap::Snap::get)
     paths "$((count + MORE))" > cases.txt
     all=$(inside name_tree::snap::Snap::with)
+    all_made=$(allocations)
     all_got=$(inside name_tree::snap::Snap::get)
-    echo "$count paths: one more publish takes $(((all - fewer) / MORE)) instructions, a look-up $(((all_got - fewer_got) / MORE))"
+    echo "$count paths: one more publish takes $(((all - fewer) / MORE)) instructions and $(python3 -c "print(round(($all_made - $fewer_made) / $MORE, 1))") allocations, a look-up $(((all_got - fewer_got) / MORE)) instructions"
 done

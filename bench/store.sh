@@ -6,6 +6,7 @@
 #
 #   usage: bench/store.sh STORE_CASES
 set -eu
+shopt -s inherit_errexit
 cases=$(realpath "$1")
 . "$(dirname "$0")/common.sh"
 need valgrind python3
@@ -35,17 +36,16 @@ each() { # FUNCTION FEWER MORE KIND WORD..: of the calls that MORE has beside FE
     echo "$(((all - less) / (more - fewer)))"
 }
 
-ask=hub_store::store::Store::ask
+ask=store_cases::row::ask
 for paths in 1 257; do
     plain=$(each $ask 100 200 hits "$paths")
     other=$(each $ask 100 200 others "$paths")
     echo "a hit, footprint of $paths: $plain instructions; after a publish elsewhere $(((other - plain) / paths)) more a path of it"
 done
-echo "a place in a book of 10,000 placements: $(each place_book::book::Book::place_for 10000 10010 places) instructions"
-echo "the placements of a path among 10,000: $(each place_book::book::Book::of_path 100 110 lists 10000) instructions"
-echo "the counts, behind 100 steps: $(each hub_store::store::Store::stats 100 110 counts 100) instructions; behind 20,000: $(each hub_store::store::Store::stats 100 110 counts 20000)"
+echo "a place in a book of 10,000 placements: $(each store_cases::link::place 10000 10010 places) instructions"
+echo "the placements of a path among 10,000: $(each store_cases::row::placed 100 110 lists 10000) instructions"
+echo "the counts, behind 100 steps: $(each store_cases::row::looked 100 110 counts 100) instructions; behind 20,000: $(each store_cases::row::looked 100 110 counts 20000)"
 for paths in 4096 8192; do
-    ready=$(each hub_store::store::Store::ready_put "$paths" "$((paths + 64))" puts)
-    put=$(each hub_store::store::Store::put "$paths" "$((paths + 64))" puts)
-    echo "a publish beside $paths paths: $((ready + put)) instructions, $put of them under the turn"
+    put=$(each store_cases::row::put "$paths" "$((paths + 64))" puts)
+    echo "a publish beside $paths paths: $put instructions with its line of output"
 done

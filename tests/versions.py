@@ -109,7 +109,7 @@ def large():
 
 def main():
     if sys.argv[1:] == ["--rows"]:
-        table.write("tests/versions.py", "versions beside plain lists", list(small()))
+        table.write("tests/versions.py --rows", "versions beside plain lists", list(small()))
     elif len(sys.argv) == 2:
         rows = [*small(), *large()]
         table.run(sys.argv[1], rows)

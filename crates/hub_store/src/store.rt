@@ -25,8 +25,8 @@ const MAX_KEPT: u64 = 268_435_456;
 
 /// The whole state of a server, that contracts see as the steps of its record and its limits.
 ///
-/// It keeps that its limits are lawful and the record is legal, and that the namespace, the book and
-/// the cache are what the record says.
+/// It keeps that its limits are lawful and the record is legal, and that the namespace, the book
+/// and the cache are what the record says.
 #[derive(Drop)]
 pub struct Store {
     pub(crate) alloc: Global,

@@ -1,6 +1,7 @@
 -- What contracts see of a cache, and what its calls find and leave.
 use Rattle.std.specs.Prelude.{◌≡◌, ℕ, ◌==◌, ◌<◌, nat_le, Bool, true, false, not, ◌&&◌}
-use Rattle.std.specs.Prelude.{if◌then◌else◌, List, [], ◌∷◌, length, Option, Some, None, slice_index_or}
+use Rattle.std.specs.Prelude.{if◌then◌else◌, List, [], ◌∷◌, length, Option, Some, None}
+use Rattle.std.specs.Prelude.{slice_index_or}
 use Rattle.std.specs.List.{find, list_any, list_all, last_or}
 use Rattle.std.specs.Option.{option_map}
 use Rattle.omos_model.specs.Names.{Name, same_name}

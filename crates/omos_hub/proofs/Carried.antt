@@ -1,23 +1,21 @@
 -- Tickets and endings, from the record that was seen to the one that is found.
-use Rattle.std.proofs.Common.{◌≡◌, ◌≢◌, ◌⊎◌, inl, inr, ℕ, zero, suc, ◌+◌, ◌≤◌, ◌<◌, Bool, true, false, not, ◌||◌, cond, eqb, List, [], ◌∷◌, ◌++◌, length, take, Option, Some, None, Ok, Err}
+use Rattle.std.proofs.Common.{◌≡◌, ◌≢◌, inl, inr, ℕ, zero, suc, ◌+◌, ◌≤◌, Bool, true, false, not, ◌||◌, cond, eqb, List, [], ◌∷◌, ◌++◌, length, take}
 use Rattle.std.proofs.Common.{refl, ap, sym, ◌∙◌, subst, arith, true≢false, eq-eqb, append-nil, append_assoc}
 use Rattle.std.specs.List.{All, list_any, before_first, position_or_len}
-use Rattle.turn_lock.specs.Steps.{GoesOn, Has, steps_by}
+use Rattle.turn_lock.specs.Steps.{steps_by}
 use Rattle.link_model.specs.Answer.{answer}
-use Rattle.link_model.specs.Plan.{Plan, plan_of}
+use Rattle.link_model.specs.Plan.{plan_of}
 use Rattle.omos_model.specs.declared.refusal.Refusal.{Refusal}
-use Rattle.omos_model.specs.declared.placement.Place.TheVariants as place
 use Rattle.history_book.specs.Steps.{seat_of, is_ask_of, Ask}
-use Rattle.history_book.specs.Told.{version_after, book_of, is_placed, IsOpen, namespace_in}
-use Rattle.history_book.specs.Legal.{Runs, IsLegal, HasPlace, IsRefusal}
-use Rattle.history_book.specs.Laws.{OpenStaysLaw}
+use Rattle.history_book.specs.Told.{version_after, book_of, is_placed}
+use Rattle.history_book.specs.Legal.{Runs, IsRefusal}
 use Rattle.history_book.specs.declared.step.Step.{Step}
 use Rattle.history_book.proofs.Grow.{namespace_stays}
 use Rattle.history_book.proofs.Lawful.{place_stays, room_stays}
 use Rattle.history_book.proofs.Numbers.{has_ask}
 use Rattle.history_book.proofs.Turns.{open_stays}
 use Rattle.hub_store.specs.Parts.{TicketParts, IsTicket, asking_of}
-use Rattle.hub_store.specs.Links.{MayFinish, IsImageFor}
+use Rattle.hub_store.specs.Links.{MayFinish}
 use Rattle.hub_store.specs.declared.reply.Outcome.{Outcome}
 use Rattle.hub_store.specs.declared.reply.Outcome.TheVariants as outcome
 use Rattle.hub_store.proofs.Kept.{version_grows}

@@ -1,5 +1,5 @@
 -- The passes of a hub.
-use Rattle.std.specs.Prelude.{◌≡◌, ℕ, ◌+◌, ◌^◌, ◌<◌, ◌≤◌, List, [], ◌∷◌, ◌++◌, length, eqb, cond}
+use Rattle.std.specs.Prelude.{◌≡◌, ℕ, ◌+◌, ◌<◌, List, [], ◌∷◌, length, eqb, cond}
 use Rattle.std.specs.Prelude.{false, slice_index_or}
 use Rattle.hub_store.specs.Parts.{StoreParts, Appended}
 use Rattle.turn_lock.specs.Steps.{AllBy, GoesOn}

@@ -12,7 +12,8 @@ use Rattle.omos_outside.specs.Sent.{WrotePart}
 use Rattle.omos_wire.specs.Sight.{sight, Short}
 use Rattle.omos_wire.specs.Stream.{Starts, Held}
 use Rattle.omos_session.specs.Parts.{Replied, Serves}
-use Rattle.omos_session.specs.Session.{Going, IsSession, frames, reply_bytes}
+use Rattle.omos_session.specs.Session.{IsSession, frames, reply_bytes}
+use Rattle.omos_session.specs.Parts.{Going}
 use Rattle.omos_hub.specs.Standing.{Standing, Went, misses}
 use Rattle.omos_session.specs.Talk.{IsTold, Row, row_of, turns_of}
 use Rattle.omos_hub.specs.Turns.{Turn}

@@ -1,7 +1,9 @@
--- What comes of one frame, of the parts of a link, and of one read.
-use Rattle.std.specs.Prelude.{◌≡◌, ℕ, ◌+◌, ◌≤◌, ◌<◌, Bool, List, [], ◌∷◌, ◌++◌, length, Option, Ok}
+-- What the parts of a session say: of one frame, of the parts of a link, of one read, and between
+-- two frames. The session as a whole is in Session, and nothing of this file in it.
+use Rattle.std.specs.Prelude.{◌≡◌, ℕ, zero, suc, ◌+◌, ◌≤◌, ◌<◌, Bool, List, [], ◌∷◌, ◌++◌, length}
+use Rattle.std.specs.Prelude.{Option, Ok}
 use Rattle.std.specs.Prelude.{Err}
-use Rattle.std.specs.List.{AllByRecursion}
+use Rattle.std.specs.List.{AllByRecursion, flat_map}
 use Rattle.std.specs.Io.KnownBytes.{Appends}
 use Rattle.omos_outside.specs.Stream.{Stream, Gives, IsAtEnd}
 use Rattle.omos_model.specs.Names.{Name}
@@ -19,9 +21,13 @@ use Rattle.hub_store.specs.declared.reply.Outcome.{Outcome}
 use Rattle.hub_store.specs.declared.reply.Outcome.TheVariants as outcome
 use Rattle.omos_wire.specs.Answer.{Answer, reply_frame}
 use Rattle.omos_wire.specs.Answer as answer
-use Rattle.omos_wire.specs.Message.{Message, End}
+use Rattle.omos_wire.specs.Message.{Message, End, frame}
 use Rattle.omos_outside.specs.Sent.{WrotePart}
-use Rattle.omos_wire.specs.Stream.{Held}
+use Rattle.omos_wire.specs.Stream.{Held, Starts}
+use Rattle.omos_session.specs.Session.{NoEnd, frames, reply_bytes}
+use Rattle.omos_session.specs.Talk.{IsTold, Row, turns_of}
+use Rattle.omos_session.specs.declared.session.SessionEnd.{SessionEnd}
+use Rattle.omos_session.specs.declared.session.SessionEnd.TheVariants as ending
 use Rattle.refusal_lines.specs.declared.refused.Refused.TheVariants as why
 use Rattle.omos_hub.specs.Calls.{Crosses}
 use Rattle.omos_hub.specs.Standing.{Standing, Went, misses}
@@ -156,3 +162,24 @@ IsRead piece.Fed told told' old new =
 IsRead piece.End told told' old new = Gives told told' [] × (new ≡ old) × IsAtEnd told'
 IsRead piece.Failed told told' old new = Gives told told' [] × (new ≡ old)
 IsRead piece.NoMemory told told' old new = (bytes : List ℕ) × Gives told told' bytes × (new ≡ old)
+
+-- ---- the loop
+
+-- A session that goes on: these rows are answered and written, and these bytes wait.
+pub record Going (alone : Bool) (old new : Standing) (told told' : Option Stream)
+    (held held' : Option (List ℕ)) (place count : ℕ) (waiting : List ℕ) : Type 0 where
+  pub rows : List Row
+  pub taken : List ℕ
+  pub went : Went alone old new (turns_of rows) (misses (turns_of rows))
+  pub rows_told : AllByRecursion (IsTold old.room old.seat) rows
+  pub read : Gives told told' taken
+  pub starts : Starts taken (frames rows) waiting
+  pub at : place ≡ length (flat_map frame (frames rows))
+  pub wrote : Appends held held' (reply_bytes rows)
+  pub none_ended : NoEnd rows
+  pub counted : count ≡ length rows
+
+-- the end of a session whose source has ended with so many bytes waiting
+abbrev pub ending_of : ℕ → SessionEnd
+ending_of zero = ending.Closed
+ending_of (suc count) = ending.Truncated (suc count)

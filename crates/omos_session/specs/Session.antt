@@ -1,10 +1,10 @@
 -- A session from end to end.
-use Rattle.std.specs.Prelude.{◌≡◌, ℕ, zero, suc, ◌≤◌, ◌<◌, Bool, List, [], ◌∷◌, ◌++◌, length, map}
+use Rattle.std.specs.Prelude.{◌≡◌, ℕ, ◌≤◌, ◌<◌, Bool, List, [], ◌∷◌, ◌++◌, length, map}
 use Rattle.std.specs.Prelude.{take, Option}
 use Rattle.std.specs.List.{AllByRecursion, flat_map}
 use Rattle.std.specs.Io.KnownBytes.{Appends}
 use Rattle.omos_outside.specs.Stream.{Stream, Gives, IsAtEnd}
-use Rattle.omos_wire.specs.Message.{Message, End, frame}
+use Rattle.omos_wire.specs.Message.{Message, End}
 use Rattle.omos_wire.specs.Answer.{reply_frame}
 use Rattle.omos_wire.specs.Stream.{Starts, Cut, Waiting, Stuck}
 use Rattle.omos_hub.specs.Standing.{Standing, Went, misses}
@@ -84,22 +84,3 @@ pub record IsSession (alone : Bool) (old new : Standing) (told told' : Option St
   pub wrote : Appends held held' written
   pub writes : Writes end written rows
   pub few : length rows ≤ max_frames
-
--- A session that goes on: these rows are answered and written, and these bytes wait.
-pub record Going (alone : Bool) (old new : Standing) (told told' : Option Stream)
-    (held held' : Option (List ℕ)) (place count : ℕ) (waiting : List ℕ) : Type 0 where
-  pub rows : List Row
-  pub taken : List ℕ
-  pub went : Went alone old new (turns_of rows) (misses (turns_of rows))
-  pub rows_told : AllByRecursion (IsTold old.room old.seat) rows
-  pub read : Gives told told' taken
-  pub starts : Starts taken (frames rows) waiting
-  pub at : place ≡ length (flat_map frame (frames rows))
-  pub wrote : Appends held held' (reply_bytes rows)
-  pub none_ended : NoEnd rows
-  pub counted : count ≡ length rows
-
--- the end of a session whose source has ended with so many bytes waiting
-abbrev pub ending_of : ℕ → SessionEnd
-ending_of zero = ending.Closed
-ending_of (suc count) = ending.Truncated (suc count)

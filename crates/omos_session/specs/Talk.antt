@@ -17,7 +17,7 @@ use Rattle.history_book.specs.Legal.{max_kept}
 use Rattle.history_book.specs.Room.{HasRoom}
 use Rattle.history_book.specs.declared.step.Step.{Step}
 use Rattle.history_book.specs.declared.step.Step.TheVariants.{Put, Missed, Looked, Asked, Placed}
-use Rattle.history_book.specs.declared.step.Step.TheVariants.{Answered, Evicted, Stored, Flushed}
+use Rattle.history_book.specs.declared.step.Step.TheVariants.{Answered, Flushed}
 use Rattle.history_book.specs.declared.step.Note.{Note}
 use Rattle.history_book.specs.declared.step.Note.TheVariants as note
 use Rattle.history_book.specs.declared.step.Look.TheVariants as look

@@ -4,7 +4,8 @@ ghost use Rattle.std.specs.Prelude.{◌≡◌, ◌^◌, ◌≤◌, ◌<◌, ◌�
 ghost use Rattle.omos_outside.specs.Faults.{Rose};
 ghost use Rattle.omos_wire.specs.Message.{End, message_of};
 ghost use Rattle.omos_session.specs.Parts.{IsRead, IsServed};
-ghost use Rattle.omos_session.specs.Session.{IsSession, ending_of};
+ghost use Rattle.omos_session.specs.Session.{IsSession};
+ghost use Rattle.omos_session.specs.Parts.{ending_of};
 ghost use Rattle.omos_hub.specs.Standing.{CanCross, CanTurn};
 
 use crate::answering::answer;

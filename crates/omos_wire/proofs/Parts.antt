@@ -1,7 +1,7 @@
 -- Placements that are written in pieces.
 use Rattle.std.proofs.Common.{◌≡◌, ℕ, ◌+◌, ◌*◌, ◌≤◌, List, [], ◌∷◌, ◌++◌, length, map, take, drop, Option, refl, ap, sym, ◌∙◌, subst, arith, append_assoc, append-nil, length-append, take-append-drop}
 use Rattle.std.proofs.lemmas.List.{length-map, take_all}
-use Rattle.std.proofs.Math.Seq.{take-append-add, take-add}
+use Rattle.std.proofs.Math.Seq.{take-add}
 use Rattle.std.specs.List.{flat_map}
 use Rattle.std.specs.Io.KnownBytes.{Appends}
 use Rattle.omos_wire.specs.Answer.{Places, longest_reply, reply_frame, span_bytes, span_of}

@@ -1,5 +1,5 @@
 -- Numbers by which paths are told apart in most cases.
-use Rattle.std.specs.Prelude.{ℕ, ◌+◌, ◌*◌, ◌%◌, ◌^◌, List}
+use Rattle.std.specs.Prelude.{ℕ, ◌+◌, ◌*◌, ◌%◌}
 use Rattle.std.specs.List.{fold}
 use Rattle.omos_model.specs.Names.{Name}
 use Rattle.omos_model.specs.declared.placement.Placement.{Placement}
