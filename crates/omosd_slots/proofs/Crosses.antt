@@ -42,7 +42,7 @@ use Rattle.history_book.proofs.step.Look.TheSendSync as look_crosses
 use Rattle.omos_model.specs.contracts.entry.Entry as entry
 use Rattle.omos_model.specs.contracts.refusal.Refusal as refusal
 use Rattle.omos_model.proofs.refusal.Refusal.TheSendSync as refusal_crosses
-use Rattle.history_book.specs.contracts.record.Record as record
+use Rattle.history_book.specs.contracts.record.Record as recorded
 use Rattle.history_book.proofs.tally.Tally.TheSendSync as tally_crosses
 use Rattle.image_cache.specs.contracts.item.Item as item
 use Rattle.image_cache.specs.contracts.cache.Cache as cache
@@ -180,7 +180,7 @@ shared_entry = shared_crosses.the_send entry.the_row entry_send entry_sync
 step_send : IsSend step.the_row
 step_send = search (shared_entry, pathname_crosses.the_send, note_crosses.the_field_send, look_crosses.the_field_send, sendable) depth 60 fits 20000
 
-record_send : IsSend record.the_row
+record_send : IsSend recorded.the_row
 record_send = search (step_send, vec_crosses.the_send, tally_crosses.the_field_send, crosses, sendable) depth 60 fits 20000
 
 shared_linked : IsSend (shared.the_row linked.the_row)

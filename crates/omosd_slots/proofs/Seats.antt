@@ -1,5 +1,5 @@
 -- Seats that are told one after the other.
-use Rattle.std.proofs.Common.{◌≡◌, ℕ, ◌+◌, ◌<◌, ◌≤◌, List, [], ◌∷◌, ◌++◌, length, get_or, All, refl, sym, ap, ◌∙◌, subst, absurd, arith, length-append}
+use Rattle.std.proofs.Common.{◌≡◌, ℕ, ◌+◌, ◌<◌, ◌≤◌, List, [], ◌∷◌, ◌++◌, length, get_or, All, refl, sym, ap, ◌∙◌, subst, arith, length-append}
 use native.Mathlib.Numerals.{unary_clauses}
 use Rattle.worker_line.specs.Drawn.{Line, Drawn, after_join}
 use Rattle.omosd_slots.specs.Slots.{IsOf, IsTold, TellAll, got_of, missed_of, parts_of, total}

@@ -6,6 +6,8 @@ use Rattle.omos_hub.specs.Passes.{AreAll, new_pass}
 use Rattle.omosd_slots.specs.Slots.{slots_of, draws_of, links_of, total, IsOf, IsTold, TellAll, Ran}
 use Rattle.omosd_slots.proofs.Runs.{each_new, fits_new, ran_of, length-from, length-slots}
 use Rattle.omosd_slots.proofs.Ends.{seats_ran, told_ran, all_ran, length-draws, Closed, ran_all}
+use Rattle.omosd_slots.proofs.Crosses.{hub_sync}
+use denote.Param.Send.{sendable}
 use Rattle.omosd_slots.proofs.run.serve_slots.Goals as goal
 
 pub seat_all-requires-clause-seats : goal.seat_all-requires-clause-seats
@@ -134,3 +136,6 @@ returns-clause-ran g c =
     let whole = ran_all hub cache room n line ss its c.close-store.result c.args.sessions c.unseat_all-sessions.result.1 (new_pass hub cache room n 1) ran (sym count) (omega (arith, count, some)) closed told c.in_ok-draws.ensures.sessions u.failed in
     subst (λ (k : ℕ). Ran cache room c.args.sessions ss (slots_of g.D.Door.state g.G.Gate.crossings c.unseat_all-sessions.new.slots.items) k (nat_lt 0 c.unseat_all-sessions.result.1) c.close-store.result) (sym u.links)
     (subst (λ l. Ran cache room c.args.sessions ss l (total links_of its) (nat_lt 0 c.unseat_all-sessions.result.1) c.close-store.result) (sym u.slots) whole)
+
+pub run_workers-requires-sync-C : goal.run_workers-requires-sync-C
+run_workers-requires-sync-C g c κs within = search (hub_sync, sendable)
