@@ -1,8 +1,8 @@
 -- What the words of the server's command lines say.
-use Rattle.std.specs.Prelude.{ℕ, ◌==◌, nat_le, Bool, false, ◌&&◌, List, [], ◌∷◌, length, codes, Option, None}
+use Rattle.std.specs.Prelude.{ℕ, ◌==◌, ◌≤◌, nat_le, Bool, false, ◌&&◌, List, [], ◌∷◌, length, codes, Option, None}
 use Rattle.std.specs.Prelude.{Some, if◌then◌else◌}
 use Rattle.std.specs.Cmp.Lexicographic.{pointwise}
-use Rattle.omos_base.specs.Limits.{Counts}
+use Rattle.omos_base.specs.Limits.{AreLimits, Counts}
 use Rattle.command_words.specs.Numbers.{number_of}
 use Rattle.command_words.specs.declared.server.SocketWords.{SocketWords}
 
@@ -80,3 +80,9 @@ abbrev pub socket_words : List (List ℕ) → Option SocketWords
 socket_words (command ∷ path ∷ workers ∷ sessions ∷ cache ∷ steps ∷ []) =
     socket_of command path workers sessions cache steps
 socket_words _ = None
+
+-- the numbers lie in their ranges
+abbrev pub AreWithin : SocketWords → Type 0
+AreWithin words =
+    (1 ≤ words.workers) × (words.workers ≤ 16) × (1 ≤ words.sessions) × (words.sessions ≤ 1000000)
+    × AreLimits words.cache words.steps

@@ -1,7 +1,7 @@
 //! The words of the server's commands.
 
-ghost use Rattle.std.specs.Prelude.{◌≡◌, map, string_bytes};
-ghost use Rattle.command_words.specs.Words.{is_word, count_of, limits_of, socket_of};
+ghost use Rattle.std.specs.Prelude.{◌≡◌, ◌≤◌, IfSome, map, string_bytes};
+ghost use Rattle.command_words.specs.Words.{AreWithin, is_word, count_of, limits_of, socket_of};
 ghost use Rattle.command_words.specs.Words.{socket_numbers, socket_words, stdio_limits, stdio_words};
 ghost use Rattle.command_words.specs.Words.{workload_count, workload_words};
 
@@ -39,7 +39,8 @@ fn limits_of(cache: &str, steps: &str) -> Option<Limits>
 
 /// The count that a word says, if it lies from 1 to so much.
 fn count_of(word: &str, most: u32) -> Option<u32>
-    ensures { result ≡ count_of most word.now }
+    ensures said { result ≡ count_of most word.now }
+    ensures within { IfSome result (λ n. (1 ≤ n) × (n ≤ most)) }
 {
     let count = number_of(word.as_bytes())?;
     if 1 <= count && count <= most {
@@ -73,7 +74,8 @@ fn workload_count(command: &str, count: &str) -> Option<u32>
 
 /// The numbers of `WORKERS SESSIONS CACHE STEPS`.
 fn socket_numbers(workers: &str, sessions: &str, cache: &str, steps: &str) -> Option<SocketWords>
-    ensures { result ≡ socket_numbers workers.now sessions.now cache.now steps.now }
+    ensures said { result ≡ socket_numbers workers.now sessions.now cache.now steps.now }
+    ensures within { IfSome result AreWithin }
 {
     let workers = count_of(workers, 16)?;
     let sessions = count_of(sessions, 1_000_000)?;
@@ -95,7 +97,9 @@ fn socket_of(
     cache: &str,
     steps: &str,
 ) -> Option<SocketWords>
-    ensures { result ≡ socket_of command.now path.now workers.now sessions.now cache.now steps.now }
+    ensures said { result
+        ≡ socket_of command.now path.now workers.now sessions.now cache.now steps.now }
+    ensures within { IfSome result AreWithin }
 {
     if is_word(command, "socket") && !path.is_empty() {
         socket_numbers(workers, sessions, cache, steps)
@@ -130,7 +134,8 @@ pub fn workload_words(words: &[String]) -> Option<u32>
 /// What the words `socket PATH WORKERS SESSIONS CACHE STEPS` say. None where the words are others,
 /// the path is empty, or a number is out of its range.
 pub fn socket_words(words: &[String]) -> Option<SocketWords>
-    ensures { result ≡ socket_words (map string_bytes words.now) }
+    ensures said { result ≡ socket_words (map string_bytes words.now) }
+    ensures within { IfSome result AreWithin }
 {
     if words.len() == 6 {
         socket_of(

@@ -1,5 +1,5 @@
 -- `omosd stdio`: a session of seat 1, which has an empty store for itself.
-use Rattle.std.specs.Prelude.{◌≡◌, ℕ, List, [], Option, Some}
+use Rattle.std.specs.Prelude.{◌≡◌, ℕ, true, List, [], Option, Some}
 use Rattle.omos_base.specs.Limits.{Counts as Limits}
 use Rattle.omos_outside.specs.Stream.{Stream}
 use Rattle.hub_store.specs.Parts.{store_of}

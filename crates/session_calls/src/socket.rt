@@ -1,8 +1,9 @@
 //! Workers that serve the links which come at their doors, on one store.
 
-ghost use Rattle.std.specs.Prelude.{◌≡◌, ◌↔◌, ◌⊎◌, ◌<◌, None, length, map, nat_lt, string_bytes};
+ghost use Rattle.std.specs.Prelude.{◌≡◌, ◌↔◌, ◌⊎◌, IfSome, None, length, map, string_bytes};
+ghost use Rattle.command_words.specs.Words.{AreWithin};
 ghost use Rattle.omos_outside.specs.Faults.{Rose};
-ghost use Rattle.omosd_slots.specs.Slots.{AreOpen, failed_between, slots_of};
+ghost use Rattle.omosd_slots.specs.Slots.{AreOpen, slots_of};
 ghost use Rattle.session_calls.specs.Socket.{HasRun, said_of, status_by};
 
 use crate::totals::totals_line;
@@ -27,7 +28,8 @@ fn status_by(failed: bool, answer: Sent) -> u8
 
 /// What the words say of so many slots.
 fn said_of(words: &[String], slots: usize) -> Option<SocketWords>
-    ensures { result ≡ said_of (map string_bytes words.now) slots }
+    ensures said { result ≡ said_of (map string_bytes words.now) slots }
+    ensures within { IfSome result (λ w. AreWithin w × (w.workers ≡ slots)) }
 {
     let said = socket_words(words)?;
     if said.workers as usize == slots {
