@@ -16,8 +16,9 @@ use std::rt::Files;
 /// How many names are tried for the new file.
 const NAMES: u32 = 1_000;
 
-/// The mode of a file that replaces none, before the process's mask.
-const NEW_MODE: u32 = 0o666;
+/// The mode of a file that replaces none, before the process's mask. It may be executed, as a
+/// linker's output may.
+const NEW_MODE: u32 = 0o777;
 
 /// The mode of a file that replaces another, until it has that one's.
 const HIDDEN_MODE: u32 = 0o600;

@@ -51,26 +51,28 @@ fn serve_stdio(rt: &HostRuntime, words: &[String]) -> u8 {
     omosd_stdio(rt.alloc(), words, &mut source, &mut sink)
 }
 
-/// Runs the command that the words begin with.
-fn command(rt: &HostRuntime, words: &[String]) -> u8 {
-    match words.first() {
-        Some(first) if first.as_str() == "stdio" => serve_stdio(rt, words),
-        Some(first) if first.as_str() == "socket" => serve_socket(rt, words),
-        _ => link_once(rt, words),
+/// Runs the command over the standard streams that the words begin with.
+fn serve_streams(rt: &HostRuntime, words: &[String]) -> u8 {
+    if begins_with(words, "stdio") {
+        serve_stdio(rt, words)
+    } else {
+        link_once(rt, words)
     }
 }
 
-fn run(rt: &HostRuntime) -> u8 {
-    match words_of(rt) {
-        Ok(words) if is_alone(&words, "--help") => printed(rt, HELP),
-        Ok(words) if is_alone(&words, "--version") => printed(rt, VERSION),
-        Ok(words) => command(rt, &words),
-        Err(status) => status,
-    }
+/// The first of the words is this text.
+fn begins_with(words: &[String], text: &str) -> bool {
+    words.first().is_some_and(|first| first.as_str() == text)
 }
 
 fn main(rt: HostRuntime) -> ExitCode {
-    let status = run(&rt);
+    let status = match words_of(&rt) {
+        Ok(words) if is_alone(&words, "--help") => printed(&rt, HELP),
+        Ok(words) if is_alone(&words, "--version") => printed(&rt, VERSION),
+        Ok(words) if begins_with(&words, "socket") => serve_socket(&rt, rt.alloc(), &words),
+        Ok(words) => serve_streams(&rt, &words),
+        Err(status) => status,
+    };
     if let Some(text) = message(status) {
         // A line that can't be printed changes no status.
         let _ = rt.eprintln(text);
