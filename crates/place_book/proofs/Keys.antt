@@ -8,7 +8,7 @@ use Rattle.std.proofs.lemmas.List.Folds.{find_at}
 use Rattle.std.proofs.lemmas.List.{map_push}
 use Rattle.std.proofs.lemmas.Option.{slice_get_read, slice_get_past}
 use Rattle.omos_model.specs.Names.{Name, same_name}
-use Rattle.omos_model.specs.Places.{serves, past_of}
+use Rattle.omos_model.specs.Places.{serves, is_of, past_of}
 use Rattle.omos_model.specs.declared.placement.Placement.{Placement}
 use Rattle.omos_model.proofs.Names.{same_name-true}
 use Rattle.place_book.specs.Keys.{key_of, key_of_placement}
@@ -24,6 +24,15 @@ other_key path pages lo hi p theirs own t o e = apart (nat_eq theirs own) refl �
 
     go : (b : Bool) → same_name path p.path ≡ b
         → (b && nat_le pages p.pages && nat_le lo p.base && nat_le (past_of p) hi) ≡ false
+    go false d = refl
+    go true d = absurd (e (t ∙ ap key_of (sym (same_name-true path p.path d)) ∙ sym o))
+
+-- a placement with another key is of another path
+pub other_path : (path : Name) (p : Placement) (theirs own : ℕ) → theirs ≡ key_of p.path → own ≡ key_of path
+    → theirs ≢ own → is_of path p ≡ false
+other_path path p theirs own t o e = go (same_name path p.path) refl
+  where
+    go : (b : Bool) → same_name path p.path ≡ b → b ≡ false
     go false d = refl
     go true d = absurd (e (t ∙ ap key_of (sym (same_name-true path p.path d)) ∙ sym o))
 

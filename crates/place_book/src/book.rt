@@ -130,6 +130,45 @@ fn push_of(
     Ok(())
 }
 
+/// The same, where most paths are told apart by their keys.
+fn push_key(
+    found: &mut Row<Placement>,
+    placement: &Placement,
+    theirs: u32,
+    path: &PathName,
+    key: u32,
+) -> Result<(), NoMemory>
+    requires theirs { theirs ≡ key_of placement.now.path }
+    requires own { key ≡ key_of path.now }
+    ensures { OnOk result
+        (found.new ≡ found.old ++ cond (is_of path.now placement.now) (placement.now ∷ []) []) }
+{
+    if theirs == key {
+        return push_of(found, placement, path);
+    }
+    Ok(())
+}
+
+/// The placements of a path.
+fn found_of(
+    alloc: Global,
+    placed: &[Placement],
+    keys: &[u32],
+    path: &PathName,
+) -> Result<Row<Placement>, NoMemory>
+    requires { keys.now ≡ map key_of_placement placed.now }
+    ensures { IfOk result (λ ps. ps ≡ filter (is_of path.now) placed.now) }
+{
+    let key = key_of(path);
+    let mut found = Row::new(alloc);
+    let mut at = 0;
+    'placements: while at < keys.len() {
+        push_key(&mut found, &placed[at], keys[at], path, key)?;
+        at += 1;
+    }
+    Ok(found)
+}
+
 impl Book {
     /// No placements, with room for so many.
     pub fn new(alloc: Global, capacity: u32) -> Result<Book, NoMemory>
@@ -202,11 +241,7 @@ impl Book {
     pub fn of_path(&self, alloc: Global, path: &PathName) -> Result<Row<Placement>, NoMemory>
         ensures { IfOk result (λ ps. ps ≡ filter (is_of path.now) self.now.placements) }
     {
-        let mut found = Row::new(alloc);
-        'placements: for placement in &self.placed {
-            push_of(&mut found, placement, path)?;
-        }
-        Ok(found)
+        found_of(alloc, self.placed.as_slice(), self.keys.as_slice(), path)
     }
 
     /// How many placements there are.
