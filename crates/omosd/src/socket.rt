@@ -11,23 +11,28 @@ use std::rt::Files;
 use std::sync::Wait;
 use std::thread::Threads;
 
-/// A door and a gate that never waits for each worker; or, as an error, the status: 8 where there is
-/// no memory, and 9 where the listener can't be shared.
-fn slots_at(
+/// Serves all sessions at the listener, with a door and a gate that never waits for each worker. The
+/// result is the status: that of the call; or 8 where there is no memory, and 9 where the listener
+/// can't be shared.
+fn serve_listener<R: Threads + Wait + Sync + Print>(
+    rt: &R,
     alloc: Global,
+    words: &[String],
     listener: &UnixListener,
     workers: u32,
-) -> Result<Vec<Slot<SocketDoor, OpenGate>>, u8> {
+) -> u8 {
     let mut slots = Vec::new(alloc);
-    for _ in 0..workers {
+    'slots: for _ in 0..workers {
         let Ok(own) = listener.try_clone() else {
-            return Err(9);
+            return 9;
         };
-        if slots.push(Slot::new(SocketDoor::new(own), OpenGate::new())).is_err() {
-            return Err(8);
+        let slot = Slot::new(SocketDoor::new(own), OpenGate::new());
+        if slots.push(slot).is_err() {
+            return 8;
         }
     }
-    Ok(slots)
+    let mut sink = Writing::new(io::writer(rt));
+    omosd_socket(rt, alloc, words, &mut slots, &mut sink)
 }
 
 /// Listens at the path of the words, serves all sessions, and removes the socket file.
@@ -36,20 +41,13 @@ pub(crate) fn serve_socket<R: Threads + Wait + Sync + Net + Files + Print>(
     alloc: Global,
     words: &[String],
 ) -> u8 {
-    let Some(said) = socket_words(words) else {
+    let (Some(said), Some(path)) = (socket_words(words), words.get(1)) else {
         return 2;
     };
-    let path = words[1].as_str();
-    let Ok(listener) = listen(rt, path) else {
+    let Ok(listener) = listen(rt, path.as_str()) else {
         return 9;
     };
-    let status = match slots_at(alloc, &listener, said.workers) {
-        Ok(mut slots) => {
-            let mut sink = Writing::new(io::writer(rt));
-            omosd_socket(rt, alloc, words, &mut slots, &mut sink)
-        }
-        Err(status) => status,
-    };
-    remove_socket(rt, path);
+    let status = serve_listener(rt, alloc, words, &listener, said.workers);
+    remove_socket(rt, path.as_str());
     status
 }
