@@ -126,7 +126,10 @@ ruleset crossing = (
   global_crosses.the_send,
   global_crosses.the_field_sync,
   global_crosses.the_sync,
-  crosses, knot.crosses, sendable)
+  crosses,
+  knot.crosses,
+  sendable,
+)
 
 stamped_send : IsSend stamped.the_row
 stamped_send = search crossing depth 60 fits 20000

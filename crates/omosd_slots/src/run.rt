@@ -8,9 +8,9 @@ ghost use Rattle.omosd_slots.specs.Slots.{slots_of, seated_from, slot_of, pass_o
 use crate::moves::take_first;
 use crate::slot::Slot;
 use crate::worker::SlotWorker;
-use omos_base::{Limits, NoMemory};
 use history_book::Step;
 use hub_store::Store;
+use omos_base::{Limits, NoMemory};
 use omos_hub::Hub;
 use omos_outside::{Door, Gate};
 use std::alloc::Global;

@@ -47,13 +47,12 @@ fn said_of(words: &[String], slots: usize) -> Option<SocketWords>
 /// The path is `main`'s: it makes the doors. The result is the status: 0 all is done; 2 the words are
 /// others; 4 the sink failed; 8 there was no memory, and then no door was asked; 9 a door failed. A
 /// session's own end changes no status.
-pub fn omosd_socket<R: Threads + Wait + Sync, D: Door + Send + Drop, G: Gate + Send + Drop, K: Sink>(
-    rt: &R,
-    alloc: Global,
-    words: &[String],
-    slots: &mut Vec<Slot<D, G>>,
-    sink: &mut K,
-) -> u8
+pub fn omosd_socket<
+    R: Threads + Wait + Sync,
+    D: Door + Send + Drop,
+    G: Gate + Send + Drop,
+    K: Sink,
+>(rt: &R, alloc: Global, words: &[String], slots: &mut Vec<Slot<D, G>>, sink: &mut K) -> u8
 where
     D::In: Send,
     D::Out: Send,
