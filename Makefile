@@ -13,7 +13,7 @@ STORE_CASES := crates/store_cases/out/store_cases
 
 help:
 	@echo "make build   proves omosd and omos and builds them as $(OMOSD), $(OMOS)"
-	@echo "make demo    links the examples with it, runs the images and shows what one prints"
+	@echo "make demo    links the examples with it, runs the images and shows what one prints; then make server"
 	@echo "make server  starts a server, wraps an allocator, links both programs and runs them"
 	@echo "make live    tries the real programs over real sockets"
 	@echo "make examples  the same, and compares what each prints"
@@ -33,6 +33,7 @@ build:
 
 demo: build examples
 	@examples/demo.sh $(OMOSD)
+	@examples/server.sh $(OMOSD) $(OMOS)
 
 server: build
 	@examples/server.sh $(OMOSD) $(OMOS)

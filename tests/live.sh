@@ -19,7 +19,7 @@ check() { # NAME: the last command's status decides
 
 start() { # SESSIONS: starts a server at ./socket
   rm -f totals
-  "$omosd" socket ./socket 4 "$1" 16 60000 > totals 2> errors &
+  timeout 60 "$omosd" socket ./socket 4 "$1" 16 60000 > totals 2> errors &
   server=$!
   for _ in $(seq 200); do [ -S socket ] && return; sleep 0.02; done
   echo "the server didn't start"
@@ -32,7 +32,7 @@ done
 
 # ---- one after the other
 
-start 11
+start 10
 [ "$(stat -c %a socket)" = 600 ]; check "the socket file is its owner's alone"
 [ "$("$omos" ./socket put /app app.o)" = 'published 1' ]; check 'put'
 "$omos" ./socket put /alloc alloc.o > /dev/null; check 'a second put'
@@ -46,14 +46,14 @@ grep -q '^image version 4 base 0x400000 bytes ' line; check "link's line"
 "$omos" ./socket where /traced | grep -q '^0x400000 '; check 'where'
 [ "$("$omos" ./socket flush /traced)" = 'flushed 1' ]; check 'flush'
 "$omos" ./socket stats > line
-[ "$(cat line)" = 'version 4 paths 4 placements 1 asked 2 hits 0 stored 1 evicted 1 held 0 steps 14' ]
+[ "$(cat line)" = 'version 4 paths 4 placements 1 asked 2 hits 0 stored 1 evicted 1 held 0 steps 13' ]
 check 'stats'
 printf '\x01\x00\x00\x00\x09' | timeout 5 python3 -c '
 import socket, sys
 s = socket.socket(socket.AF_UNIX); s.connect("./socket"); s.sendall(sys.stdin.buffer.read())
 assert s.recv(10) == b""' ; check 'rubbish ends its session alone'
 wait $server; check 'the server ends with 0'
-[ "$(cat totals)" = 'sessions 11 requests 10 version 4 placements 1 hits 0 stored 1 evicted 1' ]
+[ "$(cat totals)" = 'sessions 10 requests 9 version 4 placements 1 hits 0 stored 1 evicted 1' ]
 check 'the totals'
 [ ! -e socket ]; check 'the socket file is gone'
 
