@@ -30,7 +30,10 @@ fn object_of(rt: &HostRuntime, name: &str) -> Result<Entry> {
 fn blueprint_of(alloc: Global, text: &[u8]) -> Result<OrLine<Entry>> {
     match parse(alloc, text) {
         Ok(image) => Ok(Ok(Entry::Blueprint(image))),
-        Err(Fault::Refused(fault)) => Ok(Err(Bytes::from_slice(alloc, text_line(fault).as_slice())?)),
+        Err(Fault::Refused(fault)) => Ok(Err(Bytes::from_slice(
+            alloc,
+            text_line(fault).as_slice(),
+        )?)),
         Err(Fault::NoMemory) => Err(anyhow!("no memory")),
     }
 }
