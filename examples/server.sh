@@ -19,7 +19,7 @@ done
 
 echo '$ omosd socket ./socket 4 9 16 1000 &'
 "$omosd" socket ./socket 4 9 16 1000 > totals &
-for _ in $(seq 100); do [ -S socket ] && break; sleep 0.02; done
+for _ in $(seq 500); do [ "$(stat -c %a socket 2> /dev/null)" = 600 ] && break; sleep 0.02; done
 
 PATH="$work:$PATH"
 ln -s "$omos" omos

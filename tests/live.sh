@@ -17,11 +17,14 @@ check() { # NAME: the last command's status decides
   if [ $? -eq 0 ]; then passed=$((passed + 1)); else failed=$((failed + 1)); echo "FAILED: $1"; fi
 }
 
-start() { # SESSIONS: starts a server at ./socket
+start() { # SESSIONS: starts a server at ./socket, and waits until it listens, when it sets the mode
   rm -f totals
   timeout 60 "$omosd" socket ./socket 4 "$1" 16 60000 > totals 2> errors &
   server=$!
-  for _ in $(seq 200); do [ -S socket ] && return; sleep 0.02; done
+  for _ in $(seq 500); do
+    [ "$(stat -c %a socket 2> /dev/null)" = 600 ] && return
+    sleep 0.02
+  done
   echo "the server didn't start"
 }
 
@@ -155,6 +158,28 @@ PY
 check 'sixteen clients with a hundred requests each'
 wait $server; check 'the server ends with 0 behind them'
 grep -q '^sessions 17 requests 1604 version 403 placements 17 ' totals; check 'their totals'
+
+# ---- a session alone
+
+printf '\x01\x00\x00\x00\x05\x01\x00\x00\x00\x07' | "$omosd" stdio 4 100 > replies; check 'stdio ends with 0'
+{ printf '\x49\x00\x00\x00\x85'; head -c 72 /dev/zero; printf '\x01\x00\x00\x00\x87'; } | cmp -s - replies
+check 'the counts of an empty store'
+printf '\x05\x00\x00\x00\x03' | "$omosd" stdio 4 100 > replies 2> errors; [ $? -eq 5 ]
+check 'requests that end inside a frame'
+"$omosd" stdio 4 15 < /dev/null 2> errors; [ $? -eq 2 ]; check 'usage of a session'
+gcc -c -ffreestanding -fno-stack-protector -O2 -o numerals.o "$here/examples/numerals/numerals.c" &&
+  "$omosd" once < numerals.o > alone &&
+  python3 - numerals.o > requests <<'PY' && "$omosd" stdio 4 100 < requests > replies && tail -c +48 replies |
+import struct, sys
+def frame(body): return struct.pack("<I", len(body)) + body
+def path(name): return struct.pack("<H", len(name)) + name
+out = sys.stdout.buffer
+out.write(frame(b"\x01" + path(b"/a") + open(sys.argv[1], "rb").read()))
+out.write(frame(b"\x02" + path(b"/p") + b"(image /a)"))
+out.write(frame(b"\x03" + path(b"/p")))
+PY
+  cmp -s - alone
+check "a session's image is that of once"
 
 # ---- sockets
 
