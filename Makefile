@@ -75,6 +75,7 @@ bench: build links stores
 	@bench/text.sh $(LINK_CASES)
 	@bench/publish.sh $(LINK_CASES)
 	@bench/store.sh $(STORE_CASES)
+	@bench/session.sh $(OMOSD)
 
 clean:
 	rm -rf crates/*/out
