@@ -16,10 +16,10 @@ use omos_model::Placement;
 use omos_outside::{Sent, Sink, write_all, write_both};
 use refusal_lines::{Refused, line_of};
 
-/// How many placements are written at a time, where there is no room for all.
+/// How many placements are written at a time, where there is no memory for all.
 const PLACEMENTS: usize = 64;
 
-/// How long the long part of a reply may be that is joined to its head.
+/// How long the file of an image may be that is joined to its head.
 const JOINED: usize = 16_363;
 
 /// Writes placements, some at a time.
@@ -57,7 +57,8 @@ fn write_pieces<K: Sink>(sink: &mut K, placements: &[Placement]) -> Sent
     }
 }
 
-/// Writes the frame of a list of placements, a short one by one write.
+/// Writes the frame of a list of placements by one write, or some at a time where there is no memory
+/// for joining them.
 fn write_places<K: Sink>(sink: &mut K, room: &mut Vec<u8>, placements: &[Placement]) -> Sent
     requires { 5 + 12 * length placements.now ≤ longest_reply }
     ensures wrote { Wrote result (K.held sink.old) (K.held sink.new)
@@ -66,7 +67,7 @@ fn write_places<K: Sink>(sink: &mut K, room: &mut Vec<u8>, placements: &[Placeme
     ensures counts { K.faults sink.old < 2 ^ 64 → K.faults sink.new < 2 ^ 64 }
     ensures failed { result ≡ Sent.Failed → Rose (K.faults sink.old) (K.faults sink.new) }
 {
-    if placements.len() <= JOINED / 12 && join_places(room, placements) {
+    if join_places(room, placements) {
         return write_all(sink, room.as_slice());
     }
     write_pieces(sink, placements)
@@ -87,8 +88,8 @@ fn write_image<K: Sink>(sink: &mut K, room: &mut Vec<u8>, head: &[u8], file: &[u
 }
 
 /// Writes the frame of a reply. One of at most 16 KiB is one write, joined in the room, whatever
-/// that held; where there is no memory for joining, and for longer ones, the file of an image goes
-/// to the sink from where it lies.
+/// that held, and so is a list of placements; a longer image is two, and its file goes to the sink
+/// from where it lies. Where there is no memory for joining, placements go 64 at a time.
 pub fn write_reply<K: Sink>(reply: &Reply<'_>, room: &mut Vec<u8>, sink: &mut K) -> Sent
     requires { IsSendable (answer_of reply.now) }
     ensures wrote { Wrote result (K.held sink.old) (K.held sink.new)

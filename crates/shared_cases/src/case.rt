@@ -10,32 +10,38 @@ use omos_outside::MemorySink;
 use session_calls::omosd_socket;
 use std::alloc::Global;
 use std::fs;
-use std::rt::{Files, Print};
+use std::rt::Files;
 use std::sync::Wait;
 use std::thread::Threads;
 
-/// The text of a case: its name, the words of the command, the line of the totals, and a part for
-/// each worker.
+/// The text of a case: its name, the words of the command, the status, how many bytes of the totals
+/// are taken, their line, and a part for each worker.
 #[derive(Drop)]
 pub(crate) struct Case<'a> {
     name: &'a str,
     words: &'a str,
+    status: u8,
+    room: u32,
     totals: &'a str,
     workers: &'a str,
 }
 
 impl<'a> Case<'a> {
-    /// The case of a text whose first lines are `NAME`, `WORDS` and `TOTALS`, followed by the
-    /// workers.
+    /// The case of a text whose first lines are `NAME`, `WORDS` and `STATUS ROOM TOTALS`, followed by
+    /// the workers.
     pub(crate) fn of(text: &'a str) -> Result<Case<'a>> {
         let (name, rest) = text.split_once('\n').context("a name")?;
         let (words, rest) = rest.split_once('\n').context("the words")?;
-        let (totals, workers) = rest.split_once('\n').context("the totals")?;
+        let (end, workers) = rest.split_once('\n').context("the totals")?;
+        let (status, end) = end.split_once(' ').context("a status")?;
+        let (room, totals) = end.split_once(' ').context("the room")?;
         Ok(Case {
             name,
             words,
+            status: status.parse()?,
+            room: room.parse()?,
             totals,
-            workers,
+            workers: workers.strip_prefix("worker ").context("a worker")?,
         })
     }
 }
@@ -50,7 +56,7 @@ fn words_of(alloc: Global, text: &str) -> Result<Vec<String>> {
 }
 
 /// The slots of all workers.
-fn slots_of<R: Files>(
+fn slots_of<R: Files + Alloc<A = Global>>(
     rt: &R,
     alloc: Global,
     flags: &Flags,
@@ -75,7 +81,7 @@ fn report<R: Print>(rt: &R, case: &Case<'_>, what: &str, holds: bool) -> Result<
 }
 
 /// Compares what the sessions of a worker were sent with the files NAME.out of its rows.
-fn compare_worker<R: Files + Print>(
+fn compare_worker<R: Files + Alloc<A = Global> + Print>(
     rt: &R,
     alloc: Global,
     case: &Case<'_>,
@@ -87,7 +93,9 @@ fn compare_worker<R: Files + Print>(
     for (place, row) in rows.lines().enumerate() {
         let name = row.split(' ').next().context("a name")?;
         let wanted = fs::read(rt, format!(in alloc; "{name}.out")?.as_str()).context(name)?;
-        let sent = sinks.get(place).is_some_and(|sink| sink.bytes() == wanted.as_slice());
+        let sent = sinks
+            .get(place)
+            .is_some_and(|sink| sink.bytes() == wanted.as_slice());
         report(rt, case, name, sent)?;
     }
     if slot.gate().gave_up() {
@@ -97,20 +105,21 @@ fn compare_worker<R: Files + Print>(
 }
 
 /// Runs a case, and prints a line for each of its sessions and one for the totals.
-pub(crate) fn run_case<R: Threads + Wait + Sync + Files + Print>(
+pub(crate) fn run_case<R: Threads + Wait + Sync + Files + Alloc<A = Global> + Print>(
     rt: &R,
     alloc: Global,
     case: &Case<'_>,
 ) -> Result<()> {
     let flags = Flags::new(alloc)?;
-    let workers = case.workers.strip_prefix("worker ").context("a worker")?;
-    let mut slots = slots_of(rt, alloc, &flags, workers)?;
+    let mut slots = slots_of(rt, alloc, &flags, case.workers)?;
     let words = words_of(alloc, case.words)?;
-    let mut sink = MemorySink::new(alloc, 300, 300, Row::new(alloc))?;
+    let mut sink = MemorySink::new(alloc, case.room, 4096, Row::new(alloc))?;
     let status = omosd_socket(rt, alloc, &words, &mut slots, &mut sink);
-    for (slot, text) in slots.iter().zip(workers.split("\nworker ")) {
+    for (slot, text) in slots.iter().zip(case.workers.split("\nworker ")) {
         compare_worker(rt, alloc, case, slot, text)?;
     }
     let line = format!(in alloc; "{}\n", case.totals)?;
-    report(rt, case, "totals", status == 0 && sink.bytes() == line.as_bytes())
+    let wanted = line.as_bytes().iter().take(case.room as usize);
+    report(rt, case, "status", status == case.status)?;
+    report(rt, case, "totals", sink.bytes().iter().eq(wanted))
 }

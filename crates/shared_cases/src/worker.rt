@@ -21,7 +21,7 @@ pub(crate) type MemorySlot = Slot<MemoryDoor, HoldGate>;
 
 /// The two ends of a session's link, from a row `NAME STEP` or `NAME STEP FLAG AT`: frames come from
 /// the file NAME.in, at most STEP bytes a read, and FLAG goes up once AT bytes were sent.
-fn link_of<R: Files>(
+fn link_of<R: Files + Alloc<A = Global>>(
     rt: &R,
     alloc: Global,
     flags: &Flags,
@@ -45,7 +45,7 @@ fn link_of<R: Files>(
 }
 
 /// The links of all rows.
-fn links_of<R: Files>(
+fn links_of<R: Files + Alloc<A = Global>>(
     rt: &R,
     alloc: Global,
     flags: &Flags,
@@ -60,9 +60,10 @@ fn links_of<R: Files>(
     Ok(links)
 }
 
-/// A worker's slot, from a line `FLAG REACHED UNTIL` and a row for each session: the door waits for
-/// FLAG, and at its first crossing the gate raises REACHED and waits for UNTIL.
-pub(crate) fn slot_of<R: Files>(
+/// A worker's slot, from a line `FLAG FAILS REACHED UNTIL` and a row for each session: the door waits
+/// for FLAG and fails when it is asked for the FAILS-th time, at 0 never; at its first crossing the
+/// gate raises REACHED and waits for UNTIL.
+pub(crate) fn slot_of<R: Files + Alloc<A = Global>>(
     rt: &R,
     alloc: Global,
     flags: &Flags,
@@ -72,10 +73,13 @@ pub(crate) fn slot_of<R: Files>(
         × (slot.door.faults ≡ 0) × (slot.gate.crossings ≡ 0)) }
 {
     let (head, rows) = text.split_once('\n').context("the rows of a worker")?;
-    let (after, gate) = head.split_once(' ').context("a door's flag")?;
-    let (reached, until) = gate.split_once(' ').context("a gate's flags")?;
-    let gate = HoldGate::new(flags.named(reached)?, flags.named(until)?);
+    let mut words = head.split(' ');
+    let after = flags.named(words.next().context("a door's flag")?)?;
+    let mut fails = Row::new(alloc);
+    fails.push(words.next().context("a number of a call")?.parse::<u32>()?)?;
+    let reached = flags.named(words.next().context("a gate's first flag")?)?;
+    let until = flags.named(words.next().context("a gate's second flag")?)?;
     let links = links_of(rt, alloc, flags, rows)?;
-    let door = MemoryDoor::new(alloc, links, Some(flags.named(after)?), Row::new(alloc))?;
-    Ok(Slot::new(door, gate))
+    let door = MemoryDoor::new(alloc, links, Some(after), fails)?;
+    Ok(Slot::new(door, HoldGate::new(reached, until)))
 }
