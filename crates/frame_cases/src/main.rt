@@ -1,0 +1,41 @@
+//! Runs the rows of cases.txt: a stream and the requests that are cut from it, or a frame and the
+//! reply that is read from it. A line a row is printed: `ok NAME`, or `NAME: got ..`.
+//!
+//! The wanted answers were written by tests/frames.py from the tables of docs/FORMATS.md.
+#![tactic(auto)]
+
+mod cutting;
+mod hex;
+mod replying;
+
+use anyhow::{Context, Result, bail};
+use std::fs;
+
+/// Runs a row `NAME | KIND BYTES | WANTED`, and prints its line.
+fn run_row(rt: &HostRuntime, row: &str) -> Result<()> {
+    let (name, rest) = row.split_once(" | ").context("a name")?;
+    let (what, wanted) = rest.split_once(" | ").context("an answer")?;
+    let (kind, bytes) = what.split_once(' ').unwrap_or((what, ""));
+    let bytes = hex::bytes_of(rt.alloc(), bytes)?;
+    let got = match kind {
+        "stream" => cutting::requests_of(rt.alloc(), bytes.as_slice(), wanted)?,
+        "reply" => replying::reply_of(rt.alloc(), bytes.as_slice())?,
+        _ => bail!("the kind {kind}"),
+    };
+    if got.as_str() == wanted {
+        println!(rt; "ok {name}")?;
+    } else {
+        println!(rt; "{name}: got {got}")?;
+    }
+    Ok(())
+}
+
+fn main(rt: HostRuntime) -> Result<()> {
+    let table = fs::read_to_string(&rt, "cases.txt").context("reading cases.txt")?;
+    for row in table.lines() {
+        if !row.is_empty() && !row.starts_with('#') {
+            run_row(&rt, row).context(row)?;
+        }
+    }
+    Ok(())
+}
