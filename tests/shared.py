@@ -234,8 +234,8 @@ CASES = [
     ),
 ]
 
-HEAD = """# Written by tests/shared.py. A case: its name; the words; the status, how many bytes of the
-# totals are taken, and their line; then for each worker a line `worker FLAG FAILS REACHED UNTIL`
+HEAD = """# Written by tests/shared.py. A case: its name; the words; the status, how many bytes of
+# the totals are taken, and their line; then for each worker `worker FLAG FAILS REACHED UNTIL`
 # and a row `NAME STEP` or `NAME STEP FLAG AT` for each session (src/worker.rt).
 """
 

@@ -1,6 +1,6 @@
 //! A case, and its run.
 
-ghost use Rattle.std.specs.Prelude.{◌≡◌, ◌×◌, ◌<◌, false, All, IfOk};
+ghost use Rattle.std.specs.Prelude.{◌≡◌, ◌<◌, false, All, IfOk};
 
 use crate::flags::Flags;
 use crate::worker::{MemorySlot, slot_of};

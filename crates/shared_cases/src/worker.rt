@@ -1,6 +1,6 @@
 //! A worker of a case: its door, its gate and the sessions that come at the door.
 
-ghost use Rattle.std.specs.Prelude.{◌≡◌, ◌×◌, false, IfOk};
+ghost use Rattle.std.specs.Prelude.{◌≡◌, false, IfOk};
 ghost use Rattle.std.specs.List.{AllByRecursion};
 ghost use Rattle.omos_outside.specs.ScriptedDoor.{IsFreshPair};
 

@@ -1,9 +1,11 @@
-//! Runs the rows of cases.txt: a stream and the requests that are cut from it, or a frame and the
-//! reply that is read from it. A line a row is printed: `ok NAME`, or `NAME: got ..`.
+//! Runs the rows of cases.txt: a stream and the requests that are cut from it, a frame and the reply
+//! that is read from it, or what a client finds and leaves. A line a row is printed: `ok NAME`, or
+//! `NAME: got ..`.
 //!
-//! The wanted answers were written by tests/frames.py from the tables of docs/FORMATS.md.
+//! The wanted answers were written by tests/wire.py from the tables of docs/FORMATS.md.
 #![tactic(auto)]
 
+mod client;
 mod cutting;
 mod hex;
 mod replying;
@@ -11,15 +13,18 @@ mod replying;
 use anyhow::{Context, Result, bail};
 use std::fs;
 
-/// Runs a row `NAME | KIND BYTES | WANTED`, and prints its line.
+/// Runs a row `NAME | KIND TEXT | WANTED`, and prints its line.
 fn run_row(rt: &HostRuntime, row: &str) -> Result<()> {
     let (name, rest) = row.split_once(" | ").context("a name")?;
     let (what, wanted) = rest.split_once(" | ").context("an answer")?;
-    let (kind, bytes) = what.split_once(' ').unwrap_or((what, ""));
-    let bytes = hex::bytes_of(rt.alloc(), bytes)?;
+    let (kind, text) = what.split_once(' ').unwrap_or((what, ""));
     let got = match kind {
-        "stream" => cutting::requests_of(rt.alloc(), bytes.as_slice(), wanted)?,
-        "reply" => replying::reply_of(rt.alloc(), bytes.as_slice())?,
+        "stream" => {
+            let stream = hex::bytes_of(rt.alloc(), text)?;
+            cutting::requests_of(rt.alloc(), stream.as_slice(), wanted)?
+        }
+        "reply" => replying::reply_of(rt.alloc(), hex::bytes_of(rt.alloc(), text)?.as_slice())?,
+        "client" => client::answer_of(rt.alloc(), text)?,
         _ => bail!("the kind {kind}"),
     };
     if got.as_str() == wanted {

@@ -1,14 +1,17 @@
 #!/usr/bin/env python3
-"""Writes the rows of crates/frame_cases: streams and the requests that are cut from them, frames and
-the replies that are read from them, from the tables of docs/FORMATS.md ("The protocol").
+"""Writes the rows of crates/wire_cases: streams and the requests that are cut from them, frames
+and the replies that are read from them, and runs of the client, from the tables of docs/FORMATS.md
+("The protocol", "The command line of `omos`").
 
-    tests/frames.py
+    tests/wire.py
 """
 
 import struct
 from pathlib import Path
 
-CRATE = Path(__file__).resolve().parent.parent / "crates" / "frame_cases"
+from objects import plain
+
+CRATE = Path(__file__).resolve().parent.parent / "crates" / "wire_cases"
 LONGEST = 2_097_152
 
 ROWS = []
@@ -194,13 +197,82 @@ def replies():
         ROWS.append(f"the bytes {data or 'none'} | reply {data} | no reply")
 
 
+def client(name, words, wanted, came=b"", sent=b"", given=b"", made=None, fails="nothing"):
+    """A run: the link's bytes both ways, the files `given` and `made`, and status and lines."""
+    file = "none" if made is None else hexed(made)
+    parts = [words, hexed(given), hexed(came), hexed(sent), file, fails]
+    ROWS.append(f"client {name} | client {' / '.join(parts)} | {wanted}")
+
+
+END, BYE = frame(7), frame(135)
+LINK = frame(3, field(b"/a")) + END
+V1 = plain(b"\xe9\xfb\xff\xff\xff", 1, [("_start", 0)], [])
+COUNTED = struct.pack("<9Q", 4, 3, 1, 4, 2, 2, 0, 1, 15)
+
+
+def clients():
+    published = frame(129, struct.pack("<Q", 1))
+    image = frame(130, struct.pack("<QQ", 2, 0x400000) + b"\x7fELF")
+    put = frame(1, field(b"/o/a") + V1)
+    assert put[:11] == bytes.fromhex("c7010000010400 2f6f2f61")
+    client("without words", "", "2")
+    client("without a request", "s", "2")
+    client("with a word too many", "s stats /a", "2")
+    client("with a path of 2,001 bytes", f"s where /{'a' * 2000}", "2")
+    client("with a path of 2,000 bytes", f"s where /{'a' * 1999}", "1 refused P1;",
+           frame(131, b"\1") + BYE, frame(4, field(b"/" + b"a" * 1999)) + END)
+    client("puts an object", "s put /o/a given", "0 published 1;", published + BYE, put + END, V1)
+    client("is sent no reply", "s put /o/a given", "5", bytes.fromhex("01000000ff"), put + END, V1)
+    client("is sent nothing", "s put /o/a given", "7", b"", put + END, V1)
+    client("is sent a reply alone", "s put /o/a given", "7", published, put + END, V1)
+    client("is sent another reply for Bye", "s put /o/a given", "5", published * 2, put + END, V1)
+    client("reads no file", "s put /o/a given", "6", given=V1, fails="files")
+    client("finds no file", "s put /o/a other", "6", given=V1)
+    client("finds a file of 2,000,001 bytes", "s put /o/a given", "10", given=bytes(2_000_001))
+    client("can't send", "s link /a made", "4", fails="sink")
+    client("can't read", "s link /a made", "3", image + BYE, LINK, fails="source")
+    client("can't print", "s stats", "11", frame(133, COUNTED) + BYE, frame(5) + END,
+           fails="output")
+    client("publishes a blueprint", "s blueprint /b given", "0 published 1;", published + BYE,
+           frame(2, field(b"/b") + b"(image /a)") + END, b"(image /a)")
+    client("is out of room for bytes", "s blueprint /b given", "1 kept full;", frame(138) + BYE,
+           frame(2, field(b"/b") + b"x") + END, b"x")
+    client("links", "s link /a made", "0 image version 2 base 0x400000 bytes 4;", image + BYE, LINK,
+           made=b"\x7fELF")
+    client("links, without Bye", "s link /a made", "7", image, LINK)
+    client("can't write the image", "s link /a made", "6", image + BYE, LINK, fails="files")
+    client("is refused", "s link /a made", "1 refused L1 /a 0 /b;",
+           frame(131, b"\x29" + site(b"/a", 0) + field(b"/b")) + BYE, LINK)
+    client("is sent a code without its field", "s link /a made", "5",
+           bytes.fromhex("050000008302000000") + BYE, LINK)
+    client("finds the server full", "s link /a made", "1 full;", frame(137) + BYE, LINK)
+    client("finds the server without memory", "s link /a made", "12 no memory;",
+           frame(136) + BYE, LINK)
+    client("is sent counts for a link", "s link /a made", "5", frame(133, COUNTED) + BYE, LINK)
+    client("asks where", "s where /a", "0 0x1000 1; 0x7ff000 2047;",
+           frame(132, number(2) + struct.pack("<QIQI", 4096, 1, 0x7FF000, 2047)) + BYE,
+           frame(4, field(b"/a")) + END)
+    client("asks where of nothing", "s where /a", "0", frame(132, number(0)) + BYE,
+           frame(4, field(b"/a")) + END)
+    client("asks for the counts", "s stats",
+           "0 version 4 paths 3 placements 1 asked 4 hits 2 stored 2 evicted 0 held 1 steps 15;",
+           frame(133, COUNTED) + BYE, frame(5) + END)
+    client("is refused the counts", "s stats", "5", frame(131, b"\1") + BYE, frame(5) + END)
+    for held in (0, 1):
+        client(f"flushes {held}", "s flush /a", f"0 flushed {held};",
+               frame(134, bytes([held])) + BYE, frame(6, field(b"/a")) + END)
+
+
 def main():
     requests()
     bad_streams()
     replies()
+    clients()
     (CRATE / "data").mkdir(exist_ok=True)
-    head = "# Written by tests/frames.py. NAME | stream BYTES | REQUESTS AND REST, or\n"
-    head += "# NAME | reply BYTES | REPLY. Bytes are hexadecimal, or COUNT*BYTE.\n"
+    head = "# Written by tests/wire.py. NAME | stream BYTES | REQUESTS AND REST, or\n"
+    head += "# NAME | reply BYTES | REPLY, or\n"
+    head += "# NAME | client WORDS / GIVEN / CAME / SENT / MADE / FAILS | STATUS AND LINES.\n"
+    head += "# Bytes are hexadecimal, or COUNT*BYTE.\n"
     (CRATE / "data" / "cases.txt").write_text(head + "\n".join(ROWS) + "\n")
     names = [row.split(" | ")[0] for row in ROWS]
     assert len(names) == len(set(names)), [n for n in names if names.count(n) > 1]

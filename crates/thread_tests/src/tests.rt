@@ -1,0 +1,5 @@
+//! The tests, by subject.
+
+mod draws;
+mod files;
+mod turns;
