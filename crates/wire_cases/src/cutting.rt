@@ -1,5 +1,7 @@
 //! The requests that are cut from a stream.
 
+ghost use Rattle.std.specs.Prelude.{◌<◌};
+
 use crate::hex::push_text;
 use anyhow::{Context, Result};
 use omos_wire::{Decoder, Found, FrameCause, Request, request_frame};
@@ -56,7 +58,9 @@ fn push_requests(text: &mut String, decoder: &mut Decoder) -> Result<bool> {
 }
 
 /// The requests of a stream that is fed so many bytes at a time, and how it ends.
-fn fed(alloc: Global, stream: &[u8], step: usize) -> Result<String> {
+pub(crate) fn fed(alloc: Global, stream: &[u8], step: usize) -> Result<String>
+    requires { 0 < step }
+{
     let mut text = String::new(alloc);
     let mut decoder = Decoder::new(alloc);
     for piece in stream.chunks(step) {

@@ -23,6 +23,11 @@ fn run_row(rt: &HostRuntime, row: &str) -> Result<()> {
             let stream = hex::bytes_of(rt.alloc(), text)?;
             cutting::requests_of(rt.alloc(), stream.as_slice(), wanted)?
         }
+        "pieces" => {
+            let (step, text) = text.split_once(' ').context("a step")?;
+            let stream = hex::bytes_of(rt.alloc(), text)?;
+            cutting::fed(rt.alloc(), stream.as_slice(), step.parse::<usize>()?.max(1))?
+        }
         "reply" => replying::reply_of(rt.alloc(), hex::bytes_of(rt.alloc(), text)?.as_slice())?,
         "client" => client::answer_of(rt.alloc(), text)?,
         _ => bail!("the kind {kind}"),
