@@ -4,3 +4,4 @@ pub mod Linked
 pub mod Seats
 pub mod Runs
 pub mod Ends
+pub mod Opened

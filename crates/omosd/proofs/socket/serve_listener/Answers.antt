@@ -1,6 +1,6 @@
 use Rattle.omos_adapt.specs.contracts.door.SocketDoorDoor.TheImpl as door
 use Rattle.omos_outside.specs.contracts.gate.OpenGateGate.TheImpl as gate
-use Rattle.omosd.proofs.Opened.{all_open}
+use Rattle.omosd_slots.proofs.Opened.{all_open}
 use Rattle.omosd.proofs.socket.serve_listener.Goals as goal
 
 pub omosd_socket-requires-clause-doors : goal.omosd_socket-requires-clause-doors
