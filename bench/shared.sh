@@ -1,7 +1,7 @@
 #!/usr/bin/env bash
-# Counts, by callgrind, what a hit takes in a session that has a store for itself (`omosd stdio`) and
-# in one of many on a hub (shared_cases, over links in memory), as whole runs of 600 hits less those
-# of 100. Every reply is compared with the first.
+# Counts, by callgrind, what a hit takes in a session that has a store for itself (`omosd stdio`)
+# and in one of many on a hub (shared_cases, over links in memory), as whole runs of 600 hits less
+# those of 100. Every reply is compared with the one that tests/shared.py works out.
 #
 #   usage: bench/shared.sh OMOSD SHARED_CASES
 set -eu
@@ -43,5 +43,5 @@ shared() {
 one=$((($(alone 600) - $(alone 100)) / 500))
 many=$((($(shared 600) - $(shared 100)) / 500))
 echo "a hit: $one instructions in a session alone, reads and writes of the streams included"
-echo "a hit: $many in a shared session over memory, of which the copy of its image into the sink and"
-echo "the comparison of its reply are the harness's"
+echo "a hit: $many in a shared session over memory; the copy of its image into the sink and the"
+echo "comparison of its reply, which are in it, are the harness's"

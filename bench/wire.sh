@@ -35,9 +35,12 @@ each() { # KIND STEP FEWER MORE DIGITS: instructions for each more
     local less all
     less=$(decoding "$1" "$3" "$2")
     all=$(decoding "$1" "$4" "$2")
-    python3 -c "print(f'{($all - $less) / ($4 - $3):.$5f}; twice as many take {$all / $less:.2f} times that')"
+    python3 -c "print(f'{($all - $less) / ($4 - $3):.$5f} (twice as many: {$all / $less:.2f} times)')"
 }
 
-echo "instructions a byte of a large object in pieces of 16 KiB: $(each object 16384 500000 1000000 2)"
-echo "instructions a byte of an object that comes byte by byte: $(each object 1 50000 100000 1)"
-echo "instructions a small request: $(each link 16384 2000 4000 0)"
+large=$(each object 16384 500000 1000000 2)
+single=$(each object 1 50000 100000 1)
+small=$(each link 16384 2000 4000 0)
+echo "instructions a byte of a large object in pieces of 16 KiB: $large"
+echo "instructions a byte of an object that comes byte by byte: $single"
+echo "instructions a small request: $small"
