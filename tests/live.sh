@@ -159,6 +159,9 @@ check 'sixteen clients with a hundred requests each'
 wait $server; check 'the server ends with 0 behind them'
 grep -q '^sessions 17 requests 1604 version 403 placements 17 ' totals; check 'their totals'
 
+timeout 120 python3 "$here/tests/load.py" "$omosd" > load; check 'sixty-four clients, half of them bad'
+grep -v '^sessions' load
+
 # ---- a session alone
 
 printf '\x01\x00\x00\x00\x05\x01\x00\x00\x00\x07' | "$omosd" stdio 4 100 > replies; check 'stdio ends with 0'
