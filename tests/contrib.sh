@@ -156,8 +156,8 @@ else
   left_out systemd-analyze 'the unit'
 fi
 if command -v shellcheck > /dev/null; then
-  shellcheck "$contrib/omos-run" "$contrib/omos.bash" "$here"/tests/contrib.sh "$here"/tests/docs.sh \
-    "$here"/examples/*.sh "$here"/bench/hits.sh
+  (cd "$here" && shellcheck -x contrib/omos-run contrib/omos.bash tests/contrib.sh tests/docs.sh \
+    examples/*.sh bench/hits.sh)
   check 'shellcheck'
 else
   left_out shellcheck 'the look at the scripts'
