@@ -101,20 +101,24 @@ uninstall:
 	-rmdir $(DESTDIR)$(PREFIX)/share/omos
 
 real: build
-	@cd crates/omos_fragment && rt run -- data/twelve.o > out.log 2>&1 || { tail -n 20 out.log; exit 1; }
+	@cd crates/omos_fragment && rt run -- data/twelve.o > out.log 2>&1 || \
+	    { tail -n 20 out.log; exit 1; }
 	@rm -f crates/omos_fragment/out.log
 	@tests/real.py $(FRAGMENT) $(OMOSD)
 
-# The program reads its table from the folder that it is run in, so the run in its own folder only builds it.
+# The program reads its table from the folder that it is run in, so the run in its own folder only
+# builds it.
 links:
 	@rm -f $(LINK_CASES)
-	@cd crates/link_cases && rt run > out.log 2>&1; test -x out/link_cases || { tail -n 20 out.log; exit 1; }
+	@cd crates/link_cases && rt run > out.log 2>&1; test -x out/link_cases || \
+	    { tail -n 20 out.log; exit 1; }
 	@cd crates/link_cases/data && ../out/link_cases > ../out.log && cmp ../out.log ../stdout
 	@rm -f crates/link_cases/out.log
 
 stores:
 	@rm -f $(STORE_CASES)
-	@cd crates/store_cases && rt run > out.log 2>&1; test -x out/store_cases || { tail -n 20 out.log; exit 1; }
+	@cd crates/store_cases && rt run > out.log 2>&1; test -x out/store_cases || \
+	    { tail -n 20 out.log; exit 1; }
 	@cd crates/store_cases/data && ../out/store_cases > ../out.log && cmp ../out.log ../stdout
 	@rm -f crates/store_cases/out.log
 
@@ -132,6 +136,7 @@ bench: build links stores
 	@bench/publish.sh $(LINK_CASES)
 	@bench/store.sh $(STORE_CASES)
 	@bench/session.sh $(OMOSD)
+	@bench/hits.sh $(OMOSD) $(OMOS)
 
 clean:
 	rm -rf crates/*/out

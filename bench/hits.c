@@ -4,9 +4,9 @@
      hits serve SOCKET REPLY
      hits ask SOCKET REQUEST REPLY CLIENTS COUNT held|new
 
-   `ask` compares the first answer of each client with the file REPLY, byte for byte, and the lengths
-   of the others; then it prints the median of all round trips in microseconds, and the answers a
-   second of all clients together. */
+   `ask` compares the first answer of each client with the file REPLY, byte for byte, and the
+   lengths of the others; then it prints the median of all round trips in microseconds, and the
+   answers a second of all clients together. */
 #include <pthread.h>
 #include <stdint.h>
 #include <stdio.h>

@@ -1,8 +1,8 @@
 #!/usr/bin/env bash
-# Times hits through the socket: images of 8 KiB, 68 KiB and 800 KiB that the server holds, asked for
-# by 1 and by 4 clients that keep their connection, and by one that makes a new one for each link;
-# beside a C server of a thread a connection that answers as many bytes (bench/hits.c, which is also
-# the client of both). Then `omos link` as a process beside `true`.
+# Times hits through the socket: images of 8 KiB, 68 KiB and 800 KiB that the server holds, asked
+# for by 1 and by 4 clients that keep their connection, and by one that makes a new one for each
+# link; beside a C server of a thread a connection that answers as many bytes (bench/hits.c, which
+# is also the client of both). Then `omos link` as a process beside `true`.
 #
 #   usage: bench/hits.sh OMOSD OMOS
 #

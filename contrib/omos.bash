@@ -1,6 +1,6 @@
-# Completion of omosd, omos and the scripts of contrib/ in bash: source it, or let `make install` put
-# it into PREFIX/share/bash-completion/completions. The server's paths aren't completed: no request
-# lists them.
+# Completion of omosd, omos and the scripts of contrib/ in bash: source it, or let `make install`
+# put it into PREFIX/share/bash-completion/completions. The server's paths aren't completed: no
+# request lists them.
 
 _omos_files() { # the files that begin with $1, of all kinds
   compopt -o filenames 2> /dev/null

@@ -75,11 +75,13 @@ _start: mov (%rsp), %rdi        # how many words there are
         syscall
 END
 "$omos" ./socket put /words words.o > lines
-"$contrib/omos-run" ./socket /words one two; [ $? -eq 3 ]; check 'words and the status are handed on'
+"$contrib/omos-run" ./socket /words one two; [ $? -eq 3 ]
+check 'words and the status are handed on'
 "$contrib/omos-run" ./socket /none 2> lines; [ $? -eq 125 ]; check 'a refusal: status 125'
 grep -qx 'refused L1 /none 0 /none' lines; check 'its line'
 "$contrib/omos-run" ./socket 2> errors; [ $? -eq 125 ]; check 'usage of omos-run'
-[ -z "$(find "${TMPDIR:-/tmp}" -maxdepth 2 -name image -newer words.o -user "$(id -u)" 2> /dev/null)" ]
+mkdir left
+TMPDIR=$work/left "$contrib/omos-run" ./socket /w/plain > output && [ -z "$(ls left)" ]
 check 'no image is left behind'
 
 # ---- omos-explain
@@ -94,9 +96,11 @@ cat > deep.bp <<'END'
   (merge /w/app (show (a b) (override /w/app (copy_as nothing else /w/alloc)))))
 END
 "$omos" ./socket blueprint /deep deep.bp > lines
-"$omos" ./socket link /deep deep | "$contrib/omos-explain" -b /x=lib/plain.bp -b /deep=deep.bp > words
+"$omos" ./socket link /deep deep |
+  "$contrib/omos-explain" -b /x=lib/plain.bp -b /deep=deep.bp > words
 grep -qx 'refused L7 /deep 5 nothing' words; check 'the node that the server names'
-grep -qx '  node 5 of /deep: (copy_as nothing else /w/alloc)' words; check 'is the one that is shown'
+grep -qx '  node 5 of /deep: (copy_as nothing else /w/alloc)' words
+check 'is the one that is shown'
 "$omos" ./socket blueprint /text bad/text.bp | "$contrib/omos-explain" -b bad/text.bp > words
 grep -qx '  line 1, column 14:' words; check 'a place in a text'
 "$omosd" once < bad/source.o 2> errors | "$contrib/omos-explain" | grep -q 'it may be a source'
@@ -107,7 +111,8 @@ extern "C" void _start() { larger(1, 2); }
 END
 if [ -e group.o ]; then
   "$omos" ./socket put /g group.o | "$contrib/omos-explain" -o group.o > words
-  grep -qx '  section 1 is .group, a COMDAT group of _Z6largerIiET_S0_S0_' words; check 'a group is named'
+  grep -qx '  section 1 is .group, a COMDAT group of _Z6largerIiET_S0_S0_' words
+  check 'a group is named'
   g++ -c -fno-weak -ffreestanding -x c++ -o single.o - <<'END'
 template <class T> T larger(T a, T b) { return a < b ? b : a; }
 extern "C" void _start() { larger(1, 2); }
@@ -119,7 +124,8 @@ for words in 'full' 'kept full' 'no memory' 'status omos 9' 'status omosd 5' 're
   "$contrib/omos-explain" $words | grep -q '^  Do: '; check "explained: $words"
 done
 "$contrib/omos-explain" refused X1 > words; [ $? -eq 1 ]; check 'what has no entry: status 1'
-echo 'published 3' | "$contrib/omos-explain" | cmp -s - <(echo 'published 3'); check 'other lines stay'
+echo 'published 3' | "$contrib/omos-explain" | cmp -s - <(echo 'published 3')
+check 'other lines stay'
 "$contrib/omos-explain" -z 2> errors; [ $? -eq 2 ]; check 'usage of omos-explain'
 
 # ---- completions
