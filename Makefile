@@ -16,8 +16,8 @@ BINDIR := $(PREFIX)/bin
 COMPLETIONS := $(PREFIX)/share/bash-completion/completions
 SCRIPTS := omos-explain omos-put-dir omos-run
 
-.PHONY: help try build demo server live contrib docs examples real links stores sweep bench clean \
-	install uninstall
+.PHONY: help try try-test build demo server live test trials contrib docs examples real links \
+	stores sweep bench clean install uninstall
 
 help:
 	@echo "make try     builds omosd and omos with no proof, in a minute or two, and runs the demo"
@@ -25,6 +25,8 @@ help:
 	@echo "make demo    make examples; then links one and shows what it prints; then make server"
 	@echo "make server  starts a server, wraps an allocator, links both programs and runs them"
 	@echo "make live    tries the real programs over real sockets"
+	@echo "make test    make live, the examples, contrib/, the README's commands, docs/ and man/"
+	@echo "make try-test  the same with the programs of make try"
 	@echo "make examples  runs each of examples/ and compares what it prints"
 	@echo "make contrib  tries the scripts of contrib/, the completions and make install"
 	@echo "make docs    looks at links, names of files and the table of refusals in docs/ and man/"
@@ -35,7 +37,7 @@ help:
 	@echo "make bench   times it beside other linkers, and counts instructions"
 	@echo "rt ci        proves and tests everything; .ci/run, the test command, then runs make live"
 
-# The demo, the examples and the live tests by programs of which nothing is proved.
+# The demo by programs of which nothing is proved.
 try:
 	@examples/try.sh out/try
 	@examples/demo.sh out/try/omosd
@@ -65,6 +67,21 @@ live: build
 examples: build
 	@examples/run.sh $(OMOSD)
 	@examples/sessions.sh $(OMOSD) $(OMOS)
+
+# All that is tried of the programs as a whole, by those that make build or make try leaves.
+test: build
+	@$(MAKE) -s trials OMOSD=$(OMOSD) OMOS=$(OMOS)
+
+try-test: try
+	@$(MAKE) -s trials OMOSD=out/try/omosd OMOS=out/try/omos
+
+trials:
+	@tests/live.sh $(OMOSD) $(OMOS)
+	@examples/run.sh $(OMOSD)
+	@examples/sessions.sh $(OMOSD) $(OMOS)
+	@tests/contrib.sh $(OMOSD) $(OMOS)
+	@tests/readme.py $(OMOSD) $(OMOS)
+	@tests/docs.sh
 
 contrib: build
 	@tests/contrib.sh $(OMOSD) $(OMOS)
