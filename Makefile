@@ -103,9 +103,9 @@ install:
 	for name in omosd $(SCRIPTS); do ln -sf omos $(DESTDIR)$(COMPLETIONS)/$$name; done
 	install -d $(DESTDIR)$(PREFIX)/share/zsh/site-functions
 	install -m 644 contrib/_omos $(DESTDIR)$(PREFIX)/share/zsh/site-functions/_omos
-	install -d $(DESTDIR)$(PREFIX)/lib/systemd/user
+	install -d $(DESTDIR)$(PREFIX)/share/systemd/user
 	sed 's|@BINDIR@|$(BINDIR)|' contrib/omosd.service \
-	    > $(DESTDIR)$(PREFIX)/lib/systemd/user/omosd.service
+	    > $(DESTDIR)$(PREFIX)/share/systemd/user/omosd.service
 
 uninstall:
 	rm -f $(DESTDIR)$(BINDIR)/omosd $(DESTDIR)$(BINDIR)/omos \
@@ -114,7 +114,7 @@ uninstall:
 	    $(wildcard man/*.$(part)))) \
 	    $(foreach name,omos omosd $(SCRIPTS),$(DESTDIR)$(COMPLETIONS)/$(name)) \
 	    $(DESTDIR)$(PREFIX)/share/zsh/site-functions/_omos \
-	    $(DESTDIR)$(PREFIX)/lib/systemd/user/omosd.service
+	    $(DESTDIR)$(PREFIX)/share/systemd/user/omosd.service
 	-rmdir $(DESTDIR)$(PREFIX)/share/omos
 
 real: build

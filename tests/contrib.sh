@@ -173,7 +173,7 @@ check 'make install'
 root=$work/root/usr
 [ -x "$root/bin/omosd" ] && [ -x "$root/bin/omos" ]; check 'the programs'
 "$root/bin/omos-explain" full | grep -q '^  Do: '; check 'omos-explain finds its table'
-grep -q '^ExecStart=/usr/bin/omosd socket ' "$root/lib/systemd/user/omosd.service"; check 'the unit'
+grep -q '^ExecStart=/usr/bin/omosd socket ' "$root/share/systemd/user/omosd.service"; check 'the unit'
 [ "$(find "$root/share/man" -type f | wc -l)" -eq 8 ]; check 'the pages'
 make -s -C "$here" uninstall PREFIX=/usr DESTDIR="$work/root" > lines; check 'make uninstall'
 [ -z "$(find "$work/root" ! -type d)" ]; check 'nothing is left'
