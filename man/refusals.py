@@ -175,6 +175,24 @@ def statuses(program):
     return sorted(int(n) for row in rows for n in row.split(", "))
 
 
+def paged():
+    """Of man/omos-protocol.7's table of codes: name, code and fields with their sizes."""
+    text = read("man/omos-protocol.7").split(".Ss Codes of refusals")[1].split(".El")[0]
+    found = {}
+    for names, codes_, fields in re.findall(r"^\.It ([A-Z]\d.*) Ta (.*) Ta (.*)$", text, re.M):
+        # `O1 to O4` and `11 to 14`, or lists of the same length
+        if " to " in names:
+            low, high = (int(n[1:]) for n in names.split(" to "))
+            names = ", ".join(names[0] + str(n) for n in range(low, high + 1))
+            low, high = map(int, codes_.split(" to "))
+            codes_ = ", ".join(map(str, range(low, high + 1)))
+        each = fields.split("; ") if "; " in fields else [fields] * 9
+        for name, code, field in zip(names.split(", "), codes_.split(", "), each):
+            found[name] = (int(code), [] if field == "none" else
+                           [f.split() for f in field.split(", ")])
+    return found
+
+
 def kind_of(field):
     """The kind of a field that docs/FORMATS.md gives with its size."""
     word, *size = field
@@ -194,6 +212,7 @@ def check(table):
     hold("names of the definitions", sorted(ours), sorted(codes()))
     hold("names of the program", sorted(ours), sorted(printed()))
     hold("names of FORMATS.md", sorted(ours), sorted(formats()))
+    hold("the codes of omos-protocol.7", paged(), formats())
     for name, (code, fields) in ours.items():
         in_formats = formats().get(name, (0, []))
         hold(f"{name} in the definitions", (code, [kind_of(f) for f in in_formats[1]]),

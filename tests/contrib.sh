@@ -128,6 +128,14 @@ echo 'published 3' | "$contrib/omos-explain" | cmp -s - <(echo 'published 3')
 check 'other lines stay'
 "$contrib/omos-explain" -z 2> errors; [ $? -eq 2 ]; check 'usage of omos-explain'
 
+# ---- the example of omos-protocol(7)
+
+sed -n '/^import socket/,/^print/p' "$here/man/omos-protocol.7" | python3 - > counts
+"$omos" ./socket stats | tr -dc '0-9 ' > words
+python3 -c 'import sys; c = eval(open("counts").read()); w = open("words").read().split()
+sys.exit(list(map(int, w))[:8] != list(c)[:8])'
+check 'a client of three lines, as the page shows it'
+
 # ---- completions
 
 complete_in_bash() { # WORD..: what bash offers for the last of them
@@ -173,7 +181,8 @@ check 'make install'
 root=$work/root/usr
 [ -x "$root/bin/omosd" ] && [ -x "$root/bin/omos" ]; check 'the programs'
 "$root/bin/omos-explain" full | grep -q '^  Do: '; check 'omos-explain finds its table'
-grep -q '^ExecStart=/usr/bin/omosd socket ' "$root/share/systemd/user/omosd.service"; check 'the unit'
+grep -q '^ExecStart=/usr/bin/omosd socket ' "$root/share/systemd/user/omosd.service"
+check 'the unit'
 [ "$(find "$root/share/man" -type f | wc -l)" -eq 8 ]; check 'the pages'
 make -s -C "$here" uninstall PREFIX=/usr DESTDIR="$work/root" > lines; check 'make uninstall'
 [ -z "$(find "$work/root" ! -type d)" ]; check 'nothing is left'

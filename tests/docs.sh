@@ -10,18 +10,19 @@ cd "$here" || exit 1
 passed=0
 failed=0
 
-add() { # the last line of a script, 'N passed, M failed', behind what it says of failures
+run() { # WORD..: a check whose last line is 'N passed, M failed'
   local last
-  last=$(tail -n 1)
-  passed=$((passed + ${last%% *}))
-  last=${last#*, }
-  failed=$((failed + ${last%% *}))
-}
-
-run() { # WORD..
   "$@" > "$work"
-  grep -v ' passed, ' "$work"
-  add < "$work"
+  last=$(tail -n 1 "$work")
+  if [[ $last =~ ^([0-9]+)\ passed,\ ([0-9]+)\ failed$ ]]; then
+    passed=$((passed + BASH_REMATCH[1]))
+    failed=$((failed + BASH_REMATCH[2]))
+    head -n -1 "$work"
+  else
+    failed=$((failed + 1))
+    cat "$work"
+    echo "FAILED: $* didn't come to its end"
+  fi
 }
 work=$(mktemp)
 trap 'rm -f "$work"' EXIT
@@ -33,7 +34,8 @@ texts = sorted(glob.glob("*.md") + glob.glob("docs/*.md") + glob.glob("examples/
     recursive=True) + glob.glob("docs/*.txt"))
 pages = sorted(glob.glob("man/*.[157]"))
 scripts = sorted(glob.glob("contrib/*") + glob.glob("examples/*.sh") + glob.glob("man/*.py")
-    + ["tests/docs.sh", "tests/contrib.sh", "bench/hits.sh", "bench/hits.c", "Makefile"])
+    + ["tests/docs.sh", "tests/contrib.sh", "tests/readme.py", "bench/hits.sh", "bench/hits.c",
+       "bench/picture.py", "Makefile"])
 sources = sorted(glob.glob("examples/*/*"))
 counts = [0, 0]
 
@@ -89,6 +91,7 @@ print(f"{counts[0]} passed, {counts[1]} failed")
 PY
 
 run man/refusals.py check
+run bench/picture.py check
 
 if command -v mandoc > /dev/null; then
   for page in man/*.[157]; do
