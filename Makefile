@@ -9,6 +9,8 @@ LINK_CASES := crates/link_cases/out/link_cases
 
 STORE_CASES := crates/store_cases/out/store_cases
 
+TURNS := crates/turn_bench/out/turn_bench
+
 # Where `make install` puts the programs, the scripts of contrib/, their pages and their data.
 PREFIX ?= /usr/local
 DESTDIR ?=
@@ -17,7 +19,7 @@ COMPLETIONS := $(PREFIX)/share/bash-completion/completions
 SCRIPTS := omos-explain omos-put-dir omos-run
 
 .PHONY: help try try-test build demo server live test trials contrib docs examples real links \
-	stores sweep bench clean install uninstall
+	stores turns sweep bench clean install uninstall
 
 help:
 	@echo "make try     builds omosd and omos with no proof, in a minute or two, and runs the demo"
@@ -139,12 +141,16 @@ stores:
 	@cd crates/store_cases/data && ../out/store_cases > ../out.log && cmp ../out.log ../stdout
 	@rm -f crates/store_cases/out.log
 
+turns:
+	@cd crates/turn_bench && rt run -- 2 1000 > out.log 2>&1 || { tail -n 20 out.log; exit 1; }
+	@rm -f crates/turn_bench/out.log
+
 sweep: links
 	@tests/sweep.py $(LINK_CASES)
 	@tests/texts.py $(LINK_CASES)
 	@tests/versions.py $(LINK_CASES)
 
-bench: build links stores
+bench: build links stores turns
 	@bench/once.sh $(OMOSD)
 	@bench/objects.sh $(OMOSD)
 	@bench/operators.sh $(LINK_CASES)
@@ -152,8 +158,10 @@ bench: build links stores
 	@bench/text.sh $(LINK_CASES)
 	@bench/publish.sh $(LINK_CASES)
 	@bench/store.sh $(STORE_CASES)
+	@bench/lock.sh $(TURNS)
 	@bench/session.sh $(OMOSD)
 	@bench/hits.sh $(OMOSD) $(OMOS)
+	@bench/wrapping.sh $(OMOSD) $(OMOS)
 
 clean:
 	rm -rf crates/*/out

@@ -171,7 +171,7 @@ else
 fi
 if command -v shellcheck > /dev/null; then
   (cd "$here" && shellcheck -x contrib/omos-run contrib/omos.bash tests/contrib.sh tests/docs.sh \
-    examples/*.sh bench/hits.sh)
+    examples/*.sh bench/hits.sh bench/wrapping.sh)
   check 'shellcheck'
 else
   left_out shellcheck 'the look at the scripts'

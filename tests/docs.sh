@@ -35,7 +35,7 @@ texts = sorted(glob.glob("*.md") + glob.glob("docs/*.md") + glob.glob("examples/
 pages = sorted(glob.glob("man/*.[157]"))
 scripts = sorted(glob.glob("contrib/*") + glob.glob("examples/*.sh") + glob.glob("man/*.py")
     + ["tests/docs.sh", "tests/contrib.sh", "tests/readme.py", "bench/hits.sh", "bench/hits.c",
-       "bench/picture.py", "Makefile"])
+       "bench/wrapping.sh", "bench/picture.py", "Makefile"])
 sources = sorted(glob.glob("examples/*/*"))
 counts = [0, 0]
 

@@ -1,6 +1,6 @@
 #!/usr/bin/env python3
-"""Runs the commands that README.md shows behind `$ `, in order, in one shell, and compares what each
-prints with what stands below it. Ends with 'N passed, M failed'.
+"""Runs the commands that README.md shows behind `$ `, in order, in one shell, and compares what
+each prints with what stands below it. Ends with 'N passed, M failed'.
 
 usage: tests/readme.py OMOSD OMOS
 
