@@ -128,6 +128,13 @@ echo 'published 3' | "$contrib/omos-explain" | cmp -s - <(echo 'published 3')
 check 'other lines stay'
 "$contrib/omos-explain" -z 2> errors; [ $? -eq 2 ]; check 'usage of omos-explain'
 
+for name in lib mine; do
+  gcc -c -ffreestanding -fno-builtin -fPIC -o $name.o "$here/examples/known/$name.c"
+done
+"$here/tests/sites.py" "$omosd" lib.o mine.o > words
+check 'the node of a site is the one that the server means, in some 1,500 refusals'
+grep FAILED words
+
 # ---- the example of omos-protocol(7)
 
 sed -n '/^import socket/,/^print/p' "$here/man/omos-protocol.7" | python3 - > counts
