@@ -9,25 +9,11 @@
 # Before anything is timed the image is run, and compared with the file that omos wrote; each client
 # compares its first answer, byte for byte, and the length of each other.
 set -eu
-omosd=$(realpath "$1")
-omos=$(realpath "$2")
-# shellcheck source=bench/common.sh
-. "$(dirname "$0")/common.sh"
+# shellcheck source=bench/serving.sh
+. "$(dirname "$0")/serving.sh"
 need as gcc python3
-stop() {
-  # shellcheck disable=SC2046 # each process is a word
-  kill $(jobs -p) 2> /dev/null || true
-  rm -rf "$work"
-}
-trap stop EXIT
 
 gcc -O2 -pthread -Wall -o hits "$here/bench/hits.c"
-
-listening() { # SOCKET
-  for _ in $(seq 500); do [ -S "$1" ] && return; sleep 0.02; done
-  echo "bench: nobody listens at $1" >&2
-  exit 1
-}
 
 # The request of /p, and the answer that the server gives, whose image is the file that omos wrote.
 record() { # IMAGE

@@ -11,17 +11,9 @@
 #
 #   usage: bench/wrapping.sh OMOSD OMOS
 set -eu
-omosd=$(realpath "$1")
-omos=$(realpath "$2")
-# shellcheck source=bench/common.sh
-. "$(dirname "$0")/common.sh"
-need as gcc ld make objcopy
-stop() {
-  # shellcheck disable=SC2046 # each process is a word
-  kill $(jobs -p) 2> /dev/null || true
-  rm -rf "$work"
-}
-trap stop EXIT
+# shellcheck source=bench/serving.sh
+. "$(dirname "$0")/serving.sh"
+need as gcc ld make objcopy python3
 
 cp "$here"/examples/known/*.c .
 sed -i "s|\.\./common\.h|$here/examples/common.h|" ./*.c
@@ -66,7 +58,7 @@ microseconds() { # NAME COUNT: the median of five means
 }
 
 "$omosd" socket ./socket 4 100000 16 65536 > totals &
-for _ in $(seq 500); do [ "$(stat -c %a socket 2> /dev/null)" = 600 ] && break; sleep 0.02; done
+listening ./socket
 for name in app lib wrap; do "$omos" ./socket put /$name $name.o > line; done
 for k in $(seq 64); do "$omos" ./socket put "/more/$k" "more$k.o" > line; done
 

@@ -2,11 +2,8 @@
    the object that includes this, so no two objects clash over them. */
 static inline long system_call(long number, long a, long b, long c)
 {
-    long result;
-    __asm__ volatile("syscall"
-                     : "=a"(result)
-                     : "a"(number), "D"(a), "S"(b), "d"(c)
-                     : "rcx", "r11", "memory");
+    long result = number;
+    __asm__ volatile("syscall" : "+a"(result) : "D"(a), "S"(b), "d"(c) : "rcx", "r11", "memory");
     return result;
 }
 

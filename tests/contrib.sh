@@ -163,6 +163,9 @@ check 'bash: all commands'
 bash -n "$contrib/omos.bash"; check 'bash reads it'
 if command -v zsh > /dev/null; then
   zsh -n "$contrib/_omos"; check 'zsh reads its completion'
+  [ "$(zsh -fc "fpath=('$contrib' \$fpath); autoload -Uz compinit; compinit -u -D
+    print \$_comps[omos] \$_comps[omosd] \$_comps[omos-run]")" = '_omos _omos _omos' ]
+  check 'zsh takes it for the programs'
 else
   left_out zsh 'its completion'
 fi

@@ -35,7 +35,8 @@ texts = sorted(glob.glob("*.md") + glob.glob("docs/*.md") + glob.glob("examples/
 pages = sorted(glob.glob("man/*.[157]"))
 scripts = sorted(glob.glob("contrib/*") + glob.glob("examples/*.sh") + glob.glob("man/*.py")
     + ["tests/docs.sh", "tests/contrib.sh", "tests/readme.py", "tests/sites.py", "Makefile",
-       "bench/hits.sh", "bench/hits.c", "bench/wrapping.sh", "bench/picture.py"])
+       "bench/serving.sh", "bench/hits.sh", "bench/hits.c", "bench/wrapping.sh",
+       "bench/picture.py"])
 sources = sorted(glob.glob("examples/*/*"))
 counts = [0, 0]
 

@@ -10,10 +10,10 @@ unsigned long sum_of_table(const char *at)
 {
     unsigned long sum = 0;
     for (at = skip(at); *at; at = skip(at)) {
-        unsigned long number = 0;
-        while (*at >= '0' && *at <= '9')
-            number = number * 10 + (unsigned long)(*at++ - '0');
-        sum += number;
+        unsigned long cell = (unsigned long)(*at++ - '0');
+        for (; *at >= '0' && *at <= '9'; at++)
+            cell = cell * 10 + (unsigned long)(*at - '0');
+        sum += cell;
     }
     return sum;
 }
