@@ -1,0 +1,2 @@
+/* The first user. */
+const char *owner(void) { return "ann"; }

@@ -1,0 +1,2 @@
+/* The second user. */
+const char *owner(void) { return "ben"; }

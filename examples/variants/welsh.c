@@ -1,0 +1,2 @@
+/* Another language. */
+const char *greeting(void) { return "helo"; }
