@@ -1,6 +1,6 @@
 -- Numbers by which paths are told apart in most cases.
-use Rattle.std.specs.Prelude.{ℕ, ◌+◌, ◌*◌, ◌%◌}
-use Rattle.std.specs.List.{fold}
+use Rattle.std.specs.Prelude.{ℕ, ◌+◌, ◌*◌, ◌%◌, nat_eq, List, drop}
+use Rattle.std.specs.List.{fold, position_or_len}
 use Rattle.omos_model.specs.Names.{Name}
 use Rattle.omos_model.specs.declared.placement.Placement.{Placement}
 
@@ -13,3 +13,7 @@ key_of path = fold key_with 0 path
 
 abbrev pub key_of_placement : Placement → ℕ
 key_of_placement p = key_of p.path
+
+-- the first position from one on at which the key stands, or the number of keys
+abbrev pub next_of : ℕ → ℕ → List ℕ → ℕ
+next_of key from keys = from + position_or_len (nat_eq key) (drop from keys)
