@@ -1,10 +1,10 @@
 -- Paths told apart by their keys, and what stands at a position.
 use Rattle.std.proofs.Common.{◌≡◌, ◌≢◌, ℕ, suc, ◌+◌, ◌<◌, ◌≤◌, Bool, true, false, not, ◌&&◌, cond}
 use Rattle.std.proofs.Common.{List, [], ◌∷◌, ◌++◌, length, get_or, map, drop, filter, Some, None}
-use Rattle.std.proofs.Common.{refl, ap, sym, ◌∙◌, arith, nat_eq, nat_le, true≢false, append-nil}
-use Rattle.std.proofs.Common.{append_assoc}
+use Rattle.std.proofs.Common.{refl, ap, sym, ◌∙◌, arith, nat_eq, nat_le, nat_lt, true≢false, append-nil}
+use Rattle.std.proofs.Common.{append_assoc, ◌||◌}
 use Rattle.std.specs.Prelude.{slice_get}
-use Rattle.std.specs.List.{find, position_or_len}
+use Rattle.std.specs.List.{find, position_or_len, list_any}
 use Rattle.std.proofs.lemmas.Bool.Decides.{nat_tests}
 use Rattle.std.proofs.lemmas.List.{map_push, drop-drop, drop-map, at_drop_more, drop_all}
 use Rattle.std.proofs.lemmas.List.{length-map}
@@ -176,3 +176,29 @@ pub filter_past : {X : Type 0} (p : X → Bool) (xs : List X) (at : ℕ) (found 
     → found ++ filter p (drop at xs) ≡ filter p xs → found ≡ filter p xs
 filter_past p xs at found l e =
     sym (append-nil found) ∙ ap (λ ys. found ++ filter p ys) (sym (drop_all at xs l)) ∙ e
+
+-- ---- whether there is one
+
+pub any_found : {X : Type 0} (p : X → Bool) (xs : List X) (n : ℕ) → n ≡ position_or_len p xs
+    → (n < length xs → list_any p xs ≡ true) × (length xs ≤ n → list_any p xs ≡ false)
+any_found p [] n e = (λ l. absurd (omega arith), λ l. refl)
+any_found p (x ∷ xs) n e = go (p x) refl e (any_found p xs (position_or_len p xs) refl)
+  where
+    go : (b : Bool) → p x ≡ b → n ≡ cond (not b) (1 + position_or_len p xs) 0
+        → (position_or_len p xs < length xs → list_any p xs ≡ true)
+            × (length xs ≤ position_or_len p xs → list_any p xs ≡ false)
+        → (n < length (x ∷ xs) → (b || list_any p xs) ≡ true)
+            × (length (x ∷ xs) ≤ n → (b || list_any p xs) ≡ false)
+    go true d k i = (λ l. refl, λ l. absurd (omega arith))
+    go false d k i = (λ l. i.0 (omega arith), λ l. i.1 (omega arith))
+
+pub listed : (keys : List ℕ) (key n : ℕ) → n ≡ next_of key 0 keys
+    → nat_lt n (length keys) ≡ list_any (nat_eq key) keys
+listed keys key n e = go (nat_lt n (length keys)) refl
+  where
+    place : n ≡ position_or_len (nat_eq key) keys
+    place = omega (arith, e)
+
+    go : (b : Bool) → nat_lt n (length keys) ≡ b → b ≡ list_any (nat_eq key) keys
+    go true d = sym ((any_found (nat_eq key) keys n place).0 (grind (arith, nat_tests, d)))
+    go false d = sym ((any_found (nat_eq key) keys n place).1 (grind (arith, nat_tests, d)))

@@ -1,7 +1,7 @@
 //! Numbers by which paths are told apart in most cases.
 
-ghost use Rattle.std.specs.Prelude.{◌≡◌, ◌+◌, ◌<◌, ◌≤◌, ◌^◌, fold, length, true};
-ghost use Rattle.place_book.specs.Keys.{key_of, key_with, next_of};
+ghost use Rattle.std.specs.Prelude.{◌≡◌, ◌+◌, ◌<◌, ◌≤◌, ◌^◌, fold, length, drop, true};
+ghost use Rattle.place_book.specs.Keys.{key_of, key_with, next_of, is_listed};
 
 use omos_base::PathName;
 
@@ -9,17 +9,40 @@ use omos_base::PathName;
 fn key_with(key: u32, byte: u8) -> u32
     ensures { result ≡ key_with key byte }
 {
-    ((u64::from(key) * 31 + u64::from(byte)) % 0x1_0000_0000) as u32
+    ((u64::from(key) * 37 + u64::from(byte)) % 0x1_0000_0000) as u32
 }
 
-/// A number of a path. Equal paths have the same, and most others another.
-pub(crate) fn key_of(path: &PathName) -> u32
+/// The key of the bytes so far and two more, from a position on.
+fn key_with_2(key: u32, bytes: &[u8], at: usize) -> u32
+    requires { at + 2 ≤ length bytes.now }
+    ensures { fold key_with result (drop (at + 2) bytes.now)
+        ≡ fold key_with key (drop at bytes.now) }
+{
+    key_with(key_with(key, bytes[at]), bytes[at + 1])
+}
+
+/// The key of the bytes so far and four more, from a position on.
+fn key_with_4(key: u32, bytes: &[u8], at: usize) -> u32
+    requires { at + 4 ≤ length bytes.now }
+    ensures { fold key_with result (drop (at + 4) bytes.now)
+        ≡ fold key_with key (drop at bytes.now) }
+{
+    key_with_2(key_with_2(key, bytes, at), bytes, at + 2)
+}
+
+/// A number of a path. Equal paths have the same, and most others another. Four bytes take one turn
+/// of a loop.
+pub fn key_of(path: &PathName) -> u32
     ensures { result ≡ key_of path.now }
 {
     let bytes = path.as_bytes();
     let mut key = 0;
     let mut at = 0;
-    'bytes: while at < bytes.len() {
+    'fours: while bytes.len() - at >= 4 {
+        key = key_with_4(key, bytes, at);
+        at += 4;
+    }
+    'ones: while at < bytes.len() {
         key = key_with(key, bytes[at]);
         at += 1;
     }
@@ -73,4 +96,11 @@ pub(crate) fn next_of(keys: &[u32], from: usize, key: u32) -> usize
         at += 1;
     }
     at
+}
+
+/// Whether one of the keys is the path's.
+pub fn is_listed(keys: &[u32], path: &PathName) -> bool
+    ensures { result ≡ is_listed keys.now path.now }
+{
+    next_of(keys, 0, key_of(path)) < keys.len()
 }
