@@ -1,8 +1,7 @@
 -- What wasn't published since a version stands as it did there.
 use Rattle.std.proofs.Common.{◌≡◌, ℕ, zero, suc, ◌+◌, Bool, true, false, ◌||◌, List, [], ◌∷◌, ◌++◌}
-use Rattle.std.proofs.Common.{map, length, take, drop, fold, cond, Some}
-use Rattle.std.proofs.Common.{refl, ap, sym, ◌∙◌, arith, nat_eq, true≢false}
-use Rattle.std.specs.List.{list_any}
+use Rattle.std.proofs.Common.{map, take, drop, fold, cond, Some}
+use Rattle.std.proofs.Common.{refl, ap, ◌∙◌, arith, nat_eq, true≢false}
 use Rattle.std.proofs.lemmas.Bool.Decides.{nat_tests}
 use Rattle.std.proofs.lemmas.List.{map-append, take_all}
 use Rattle.omos_model.specs.Names.{Name, same_name}

@@ -1,6 +1,6 @@
 -- What wasn't published since an item was found current need not be looked up.
-use Rattle.std.proofs.Common.{◌≡◌, ℕ, Bool, true, false, not, ◌&&◌, ◌||◌, List, [], ◌∷◌, length, drop}
-use Rattle.std.proofs.Common.{refl, ap, sym, ◌∙◌, arith}
+use Rattle.std.proofs.Common.{◌≡◌, ℕ, Bool, true, false, not, ◌&&◌, ◌||◌, List, [], ◌∷◌, length}
+use Rattle.std.proofs.Common.{refl, ap, ◌∙◌, arith}
 use Rattle.std.specs.List.{All, list_all}
 use Rattle.std.proofs.lemmas.List.Elements.{All-head, All-tail}
 use Rattle.omos_model.specs.Names.{Name}
@@ -24,9 +24,9 @@ stay_is_stand since ns (x ∷ xs) a =
   where
     go : (b d : Bool) → (b ≡ false → d ≡ true)
         → list_all (λ s. not (is_listed since s.path) || is_stamp (stamp_at ns s.path) s.stamp) xs
-            ≡ list_all (λ s. is_stamp (stamp_at ns s.path) s.stamp) xs
+        ≡ list_all (λ s. is_stamp (stamp_at ns s.path) s.stamp) xs
         → ((not b || d) && list_all (λ s. not (is_listed since s.path) || is_stamp (stamp_at ns s.path) s.stamp) xs)
-            ≡ (d && list_all (λ s. is_stamp (stamp_at ns s.path) s.stamp) xs)
+        ≡ (d && list_all (λ s. is_stamp (stamp_at ns s.path) s.stamp) xs)
     go true d h i = ap (λ b. d && b) i
     go false true h i = i
     go false false h i = let no = h refl in cc

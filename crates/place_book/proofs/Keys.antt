@@ -1,7 +1,8 @@
 -- Paths told apart by their keys, and what stands at a position.
 use Rattle.std.proofs.Common.{◌≡◌, ◌≢◌, ℕ, suc, ◌+◌, ◌<◌, ◌≤◌, Bool, true, false, not, ◌&&◌, cond}
 use Rattle.std.proofs.Common.{List, [], ◌∷◌, ◌++◌, length, get_or, map, drop, filter, Some, None}
-use Rattle.std.proofs.Common.{refl, ap, sym, ◌∙◌, arith, nat_eq, nat_le, nat_lt, true≢false, append-nil}
+use Rattle.std.proofs.Common.{refl, ap, sym, ◌∙◌, arith, nat_eq, nat_le, nat_lt, true≢false}
+use Rattle.std.proofs.Common.{append-nil}
 use Rattle.std.proofs.Common.{append_assoc, ◌||◌}
 use Rattle.std.specs.Prelude.{slice_get}
 use Rattle.std.specs.List.{find, position_or_len, list_any}
@@ -186,9 +187,9 @@ any_found p (x ∷ xs) n e = go (p x) refl e (any_found p xs (position_or_len p 
   where
     go : (b : Bool) → p x ≡ b → n ≡ cond (not b) (1 + position_or_len p xs) 0
         → (position_or_len p xs < length xs → list_any p xs ≡ true)
-            × (length xs ≤ position_or_len p xs → list_any p xs ≡ false)
+        × (length xs ≤ position_or_len p xs → list_any p xs ≡ false)
         → (n < length (x ∷ xs) → (b || list_any p xs) ≡ true)
-            × (length (x ∷ xs) ≤ n → (b || list_any p xs) ≡ false)
+        × (length (x ∷ xs) ≤ n → (b || list_any p xs) ≡ false)
     go true d k i = (λ l. refl, λ l. absurd (omega arith))
     go false d k i = (λ l. i.0 (omega arith), λ l. i.1 (omega arith))
 

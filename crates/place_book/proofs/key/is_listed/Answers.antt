@@ -1,4 +1,3 @@
-use Rattle.std.proofs.Common.{rules}
 use Rattle.place_book.specs.Keys.{key_of}
 use Rattle.place_book.proofs.Keys.{listed}
 use Rattle.place_book.proofs.key.is_listed.Goals as goal
