@@ -1,5 +1,6 @@
 -- Laws of legal records.
-use Rattle.std.proofs.Common.{◌≡◌, ℕ, ◌<◌, true, false, List, [], ◌∷◌, ◌++◌, reverse, Option, Some, None}
+use Rattle.std.proofs.Common.{◌≡◌, ℕ, ◌<◌, true, false, List, [], ◌∷◌, ◌++◌, reverse, Option, Some}
+use Rattle.std.proofs.Common.{None}
 use Rattle.std.proofs.Common.{refl, ap, sym, ◌∙◌, subst, append_assoc, append-nil}
 use Rattle.std.specs.List.{cons_option}
 use Rattle.std.proofs.lemmas.List.Elements.{filter_map-append}
@@ -13,16 +14,19 @@ use Rattle.history_book.specs.Told.{requests, book_of, IsOpen}
 use Rattle.history_book.specs.Owed.{IsNumbered}
 use Rattle.history_book.specs.Due.{due, due_behind}
 use Rattle.history_book.specs.Legal.{Follows, FollowsDue, IsAllowed, Runs}
-use Rattle.history_book.specs.Laws.{NumbersLaw, BookLaw, BookGrowsLaw, PlaceStaysLaw, NoRoomStaysLaw}
+use Rattle.history_book.specs.Laws.{NumbersLaw, BookLaw, BookGrowsLaw, PlaceStaysLaw}
+use Rattle.history_book.specs.Laws.{NoRoomStaysLaw}
 use Rattle.history_book.specs.declared.step.Note.TheVariants.{Image}
 use Rattle.history_book.specs.declared.step.Step.{Step}
 use Rattle.history_book.specs.declared.step.Step.TheVariants.{Put, Missed, Looked, Asked, Placed}
 use Rattle.history_book.specs.declared.step.Step.TheVariants.{Answered, Evicted, Stored, Flushed}
-use Rattle.history_book.proofs.Dues.{IsDueBehind, Answer, Leaves, Comes, due_is, allowed_numbered, request_below, same_below}
+use Rattle.history_book.proofs.Dues.{IsDueBehind, Answer, Leaves, Comes, due_is, allowed_numbered}
+use Rattle.history_book.proofs.Dues.{request_below, same_below}
 use Rattle.history_book.proofs.Grow.{book_push, namespace_stays}
 use Rattle.history_book.proofs.Legality.{due_push, due_nothing}
 use Rattle.history_book.proofs.Numbers.{ask_now, fresh_ask, fresh_answer, answered_same}
-use Rattle.history_book.proofs.Numbers.{numbered_other, numbered_ask, numbered_answer, numbered_nothing}
+use Rattle.history_book.proofs.Numbers.{numbered_other, numbered_ask, numbered_answer}
+use Rattle.history_book.proofs.Numbers.{numbered_nothing}
 
 -- ---- what is due
 

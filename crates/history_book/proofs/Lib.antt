@@ -1,4 +1,5 @@
 pub mod Grow
+pub mod Published
 pub mod Legality
 pub mod Numbers
 pub mod Rooms

@@ -1,6 +1,7 @@
 -- A store keeps what it is, from a link request to its answer.
 use Rattle.std.proofs.Common.{◌≡◌, ℕ, ◌+◌, ◌<◌, ◌≤◌, true, false, ◌&&◌}
-use Rattle.std.proofs.Common.{List, [], ◌∷◌, ◌++◌, length, get_or, refl, ap, sym, ◌∙◌, subst, arith, append_assoc}
+use Rattle.std.proofs.Common.{List, [], ◌∷◌, ◌++◌, length, get_or, refl, ap, sym, ◌∙◌, subst, arith}
+use Rattle.std.proofs.Common.{append_assoc}
 use Rattle.std.proofs.Common.{Some, None, Ok, unwrap_or, append-nil}
 use Rattle.std.specs.List.{All, list_any, remove}
 use Rattle.std.specs.Option.{option_map}
@@ -24,11 +25,13 @@ use Rattle.place_book.proofs.Stays.{new_is_held}
 use Rattle.image_cache.specs.Items as held
 use Rattle.image_cache.specs.declared.item.Item.{Item}
 use Rattle.history_book.specs.Steps.{Ask}
-use Rattle.history_book.specs.Told.{requests, version_after, namespace_in, namespace_after, book_of, ask_of}
+use Rattle.history_book.specs.Told.{requests, version_after, namespace_in, namespace_after, book_of}
+use Rattle.history_book.specs.Told.{ask_of}
 use Rattle.history_book.specs.Told.{note_of, is_answered, is_placed, IsOpen}
 use Rattle.history_book.specs.Room.{HasRoom}
 use Rattle.history_book.specs.Owed.{IsNumbered}
-use Rattle.history_book.specs.Cache.{CacheItem, cache_after, is_of, item_of, is_hit, is_current, without, base_in}
+use Rattle.history_book.specs.Cache.{CacheItem, cache_after, is_of, item_of, is_hit, is_current}
+use Rattle.history_book.specs.Cache.{without, base_in}
 use Rattle.history_book.specs.Cache.{stored_item}
 use Rattle.history_book.specs.Due.{due, storing, storing_for}
 use Rattle.history_book.specs.Legal.{HasPlace, MayEnd}
@@ -40,11 +43,14 @@ use Rattle.history_book.specs.declared.step.Step.TheVariants.{Asked, Placed}
 use Rattle.history_book.specs.declared.step.Step.TheVariants.{Answered, Evicted, Stored}
 use Rattle.history_book.proofs.Grow.{cache_push, namespace_same, namespace_stays, book_push}
 use Rattle.history_book.proofs.Grow.{version_same}
-use Rattle.history_book.proofs.Legality.{due_push, due_push_two, legal_push, legal_push_two, legal_push_three}
+use Rattle.history_book.proofs.Legality.{due_push, due_push_two, legal_push, legal_push_two}
+use Rattle.history_book.proofs.Legality.{legal_push_three}
 use Rattle.history_book.proofs.Legality.{dues_none, dues_one, dues_two}
-use Rattle.history_book.proofs.Numbers.{asked_below, ask_now, ask_stays, fresh_ask, fresh_answer, answered_same}
+use Rattle.history_book.proofs.Numbers.{asked_below, ask_now, ask_stays, fresh_ask, fresh_answer}
+use Rattle.history_book.proofs.Numbers.{answered_same}
 use Rattle.history_book.proofs.Numbers.{numbered_other, numbered_ask, numbered_answer}
-use Rattle.history_book.proofs.Rooms.{request_fits, other_fits, answered_fits, placed_fits, room_to_answer}
+use Rattle.history_book.proofs.Rooms.{request_fits, other_fits, answered_fits, placed_fits}
+use Rattle.history_book.proofs.Rooms.{room_to_answer}
 use Rattle.history_book.proofs.Endings.{note_now}
 use Rattle.history_book.proofs.Caches.{AreApart, caches_are_apart, front_item}
 use Rattle.hub_store.specs.Keeps.{IsStore, AreTold, IsKept, fact_of, facts}
@@ -52,7 +58,8 @@ use Rattle.hub_store.specs.Parts.{StoreParts, Appended, TicketParts, IsTicket, a
 use Rattle.hub_store.specs.Links.{IsImageFor, ending, IsPlain, IsPlanFor, place_in, place_then}
 use Rattle.hub_store.specs.Links.{place_reply, placing, MayLink, PlaceGives}
 use Rattle.hub_store.specs.declared.reply.PlaceReply.{PlaceReply}
-use Rattle.hub_store.proofs.Facts.{any_fact, facts_without, touched, item_at_place, All-without, All-removed}
+use Rattle.hub_store.proofs.Facts.{any_fact, facts_without, touched, item_at_place, All-without}
+use Rattle.hub_store.proofs.Facts.{All-removed}
 use Rattle.hub_store.proofs.Kept.{all_kept, own_current, hit_answers, version_grows}
 use Rattle.hub_store.proofs.Requests.{plain_push, told_push, below_same, request, book_le}
 use Rattle.hub_store.proofs.Tickets.{ticket_stays}

@@ -11,7 +11,8 @@ use Rattle.omos_model.specs.declared.placement.Placement.{Placement}
 use Rattle.image_cache.specs.Items as held
 use Rattle.image_cache.specs.declared.item.Item.{Item}
 use Rattle.history_book.specs.Steps.{is_request, is_asked, is_answer, number_of, placement_of}
-use Rattle.history_book.specs.Told.{requests, puts_of, version_after, namespace_after, kept_bytes, book_of}
+use Rattle.history_book.specs.Told.{requests, puts_of, version_after, namespace_after, kept_bytes}
+use Rattle.history_book.specs.Told.{book_of}
 use Rattle.history_book.specs.Room.{HasRoom}
 use Rattle.history_book.specs.Owed.{IsNumbered}
 use Rattle.history_book.specs.Tallied.{one_if}
@@ -22,8 +23,10 @@ use Rattle.history_book.specs.declared.step.Look.{Look}
 use Rattle.history_book.specs.declared.step.Step.{Step}
 use Rattle.history_book.specs.declared.step.Step.TheVariants.{Put, Missed, Looked, Asked}
 use Rattle.history_book.specs.declared.step.Step.TheVariants.{Evicted, Flushed}
-use Rattle.history_book.proofs.Grow.{requests_push, book_push, cache_push, present_same, present_put}
-use Rattle.history_book.proofs.Legality.{due_push, due_push_two, legal_push, legal_push_two, legal_nothing}
+use Rattle.history_book.proofs.Grow.{requests_push, book_push, cache_push, present_same}
+use Rattle.history_book.proofs.Grow.{present_put}
+use Rattle.history_book.proofs.Legality.{due_push, due_push_two, legal_push, legal_push_two}
+use Rattle.history_book.proofs.Legality.{legal_nothing}
 use Rattle.history_book.proofs.Numbers.{numbered_other, numbered_ask, numbered_nothing}
 use Rattle.history_book.proofs.Rooms.{request_fits, other_fits, room_fits}
 use Rattle.hub_store.specs.Keeps.{IsStore, AreTold, IsKept, facts}

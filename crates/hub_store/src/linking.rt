@@ -24,22 +24,23 @@ impl Store {
     /// Asks for the image of a path: a current one of the cache, or else a ticket for its
     /// evaluation on the present version.
     ///
-    /// A hit costs a walk over the cache's paths; only where something was published since the
-    /// image was last asked for, the stamps of its footprint are compared.
+    /// A hit costs a walk over the cache's paths. Where something was published since the image was
+    /// last asked for, each path of its footprint is compared with what was published by keys, and
+    /// looked up only where one agrees.
     pub fn ask(&mut self, seat: u32, path: &PathName) -> AskReply
         ensures { AskGives self.old seat path.now result self.new }
     {
-        if !self.record.room() {
+        if !self.history.room() {
             return AskReply::Full;
         }
-        let tally = self.record.tally();
+        let tally = self.history.tally();
         let number = tally.requests;
-        let Some(position) = self.cache.find(path, &self.snap, tally.version) else {
+        let Some(position) = self.cache.find(path, &self.snap, self.history.published()) else {
             let Ok(snap) = self.snap.copy() else {
-                self.record.push(Step::Missed { seat, number });
+                self.history.push(Step::Missed { seat, number });
                 return AskReply::NoMemory;
             };
-            self.record.push(Step::Asked {
+            self.history.push(Step::Asked {
                 seat,
                 number,
                 path: path.copy(),
@@ -56,18 +57,18 @@ impl Store {
             });
         };
         let Ok(image) = self.cache.at(position).image.twin() else {
-            self.record.push(Step::Missed { seat, number });
+            self.history.push(Step::Missed { seat, number });
             return AskReply::NoMemory;
         };
         is_answer(image.get());
-        self.record.push(Step::Asked {
+        self.history.push(Step::Asked {
             seat,
             number,
             path: path.copy(),
             version: tally.version,
             hit: true,
         });
-        self.record.push(Step::Answered {
+        self.history.push(Step::Answered {
             seat,
             number,
             note: Note::Image {
@@ -99,7 +100,7 @@ impl Store {
                     base,
                     pages,
                 });
-                self.record.push(Step::Placed {
+                self.history.push(Step::Placed {
                     seat: ticket.seat,
                     number: ticket.number,
                     path: ticket.path.copy(),
@@ -119,7 +120,7 @@ impl Store {
         ensures { Appended self.old self.new
             (ending self.old.limits.cache self.old.steps ticket.now note) }
     {
-        self.record.push(Step::Answered {
+        self.history.push(Step::Answered {
             seat: ticket.seat,
             number: ticket.number,
             note,
@@ -136,7 +137,7 @@ impl Store {
         let number = ticket.number;
         let version = ticket.version;
         is_answer(image.get());
-        self.record.push(Step::Answered {
+        self.history.push(Step::Answered {
             seat,
             number,
             note: Note::Image {
@@ -153,8 +154,8 @@ impl Store {
             image,
         };
         if let Some(path) = self.cache.store(item) {
-            self.record.push(Step::Evicted { seat, number, path });
-            self.record.push(Step::Stored {
+            self.history.push(Step::Evicted { seat, number, path });
+            self.history.push(Step::Stored {
                 seat,
                 number,
                 path: ticket.path.copy(),
@@ -162,7 +163,7 @@ impl Store {
             });
             return;
         }
-        self.record.push(Step::Stored {
+        self.history.push(Step::Stored {
             seat,
             number,
             path: ticket.path.copy(),

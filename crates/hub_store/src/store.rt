@@ -30,7 +30,7 @@ const MAX_KEPT: u64 = 268_435_456;
 #[derive(Drop)]
 pub struct Store {
     pub(crate) alloc: Global,
-    pub(crate) record: Record,
+    pub(crate) history: Record,
     pub(crate) snap: Snap,
     pub(crate) book: Book,
     pub(crate) cache: Cache,
@@ -48,13 +48,13 @@ impl Model for Store {
 
     ghost coded = { Prim.hlevel (codes, expr.the_row.coded) };
 
-    ghost view = { λ s. store_of s.record.steps s.cache.capacity s.record.capacity };
+    ghost view = { λ s. store_of s.history.steps s.cache.capacity s.history.capacity };
 
     ghost invariant = { λ s.
-        IsStore (limits_of s.cache.capacity s.record.capacity) s.record.steps s.snap.entries
+        IsStore (limits_of s.cache.capacity s.history.capacity) s.history.steps s.snap.entries
         s.book.placements s.cache.items
-        × (s.book.capacity ≡ s.record.capacity)
-        × AreLimits s.cache.capacity s.record.capacity };
+        × (s.book.capacity ≡ s.history.capacity)
+        × AreLimits s.cache.capacity s.history.capacity };
 }
 
 impl Store {
@@ -64,7 +64,7 @@ impl Store {
     {
         Ok(Store {
             alloc,
-            record: Record::new(alloc, limits.steps())?,
+            history: Record::new(alloc, limits.steps())?,
             snap: Snap::empty(alloc)?,
             book: Book::new(alloc, limits.steps())?,
             cache: Cache::new(limits.cache()),
@@ -77,7 +77,7 @@ impl Store {
         ensures legal { IsLegal self.now.limits.cache self.now.limits.steps self.now.steps }
         ensures lawful { AreLimits self.now.limits.cache self.now.limits.steps }
     {
-        self.record.tally().version
+        self.history.tally().version
     }
 
     /// How many steps the record has.
@@ -86,13 +86,13 @@ impl Store {
         ensures legal { IsLegal self.now.limits.cache self.now.limits.steps self.now.steps }
         ensures lawful { AreLimits self.now.limits.cache self.now.limits.steps }
     {
-        self.record.len()
+        self.history.len()
     }
 
     fn counts(&self) -> Counts
         ensures { result ≡ counts_of self.now.steps }
     {
-        let tally = self.record.tally();
+        let tally = self.history.tally();
         Counts {
             version: tally.version,
             paths: self.snap.count() as u64,
@@ -102,7 +102,7 @@ impl Store {
             stored: tally.stored,
             evicted: tally.evicted,
             held: u64::from(self.cache.len()),
-            steps: u64::from(self.record.len()),
+            steps: u64::from(self.history.len()),
         }
     }
 
@@ -111,7 +111,7 @@ impl Store {
         ensures { result ≡ totals_of self.now.steps }
     {
         Totals {
-            requests: self.record.tally().requests,
+            requests: self.history.tally().requests,
             counts: self.counts(),
         }
     }
@@ -129,7 +129,7 @@ impl Store {
         let held = entry.twin()?;
         let snap = self
             .snap
-            .with(path.copy(), self.record.tally().version + 1, held)?;
+            .with(path.copy(), self.history.tally().version + 1, held)?;
         Ok(ReadyPut {
             path: path.copy(),
             entry,
@@ -149,14 +149,14 @@ impl Store {
             size,
             snap,
         } = ready;
-        let tally = self.record.tally();
+        let tally = self.history.tally();
         if MAX_KEPT < tally.kept + u64::from(size) {
             return PutReply::KeptFull;
         }
-        if !self.record.room() {
+        if !self.history.room() {
             return PutReply::Full;
         }
-        self.record.push(Step::Put {
+        self.history.push(Step::Put {
             seat,
             number: tally.requests,
             path,
@@ -171,11 +171,11 @@ impl Store {
     pub fn missed(&mut self, seat: u32) -> Noted
         ensures { MissedGives self.old seat result self.new }
     {
-        if !self.record.room() {
+        if !self.history.room() {
             return Noted::Full;
         }
-        let number = self.record.tally().requests;
-        self.record.push(Step::Missed { seat, number });
+        let number = self.history.tally().requests;
+        self.history.push(Step::Missed { seat, number });
         Noted::Done
     }
 
@@ -183,12 +183,12 @@ impl Store {
     pub fn flush(&mut self, seat: u32, path: &PathName) -> FlushReply
         ensures { FlushGives self.old seat path.now result self.new }
     {
-        if !self.record.room() {
+        if !self.history.room() {
             return FlushReply::Full;
         }
-        let number = self.record.tally().requests;
+        let number = self.history.tally().requests;
         let held = self.cache.flush(path);
-        self.record.push(Step::Flushed {
+        self.history.push(Step::Flushed {
             seat,
             number,
             path: path.copy(),
@@ -197,7 +197,7 @@ impl Store {
         if !held {
             return FlushReply::Flushed(false);
         }
-        self.record.push(Step::Evicted {
+        self.history.push(Step::Evicted {
             seat,
             number,
             path: path.copy(),
@@ -209,15 +209,15 @@ impl Store {
     pub fn places(&mut self, seat: u32, path: &PathName) -> PlacesReply
         ensures { PlacesGives self.old seat path.now result self.new }
     {
-        if !self.record.room() {
+        if !self.history.room() {
             return PlacesReply::Full;
         }
-        let number = self.record.tally().requests;
+        let number = self.history.tally().requests;
         let Ok(found) = self.book.of_path(self.alloc, path) else {
-            self.record.push(Step::Missed { seat, number });
+            self.history.push(Step::Missed { seat, number });
             return PlacesReply::NoMemory;
         };
-        self.record.push(Step::Looked {
+        self.history.push(Step::Looked {
             seat,
             number,
             look: Look::Places(path.copy()),
@@ -229,12 +229,12 @@ impl Store {
     pub fn stats(&mut self, seat: u32) -> StatsReply
         ensures { StatsGives self.old seat result self.new }
     {
-        if !self.record.room() {
+        if !self.history.room() {
             return StatsReply::Full;
         }
         let counts = self.counts();
-        let number = self.record.tally().requests;
-        self.record.push(Step::Looked {
+        let number = self.history.tally().requests;
+        self.history.push(Step::Looked {
             seat,
             number,
             look: Look::Stats,

@@ -1,12 +1,13 @@
 -- What contracts see of a cache, and what its calls find and leave.
 use Rattle.std.specs.Prelude.{◌≡◌, ℕ, ◌==◌, ◌<◌, nat_le, Bool, true, false, not, ◌&&◌}
 use Rattle.std.specs.Prelude.{if◌then◌else◌, List, [], ◌∷◌, length, Option, Some, None}
-use Rattle.std.specs.Prelude.{slice_index_or}
-use Rattle.std.specs.List.{find, list_any, list_all, last_or}
+use Rattle.std.specs.Prelude.{slice_index_or, drop}
+use Rattle.std.specs.List.{All, find, list_any, list_all, last_or}
 use Rattle.std.specs.Option.{option_map}
 use Rattle.omos_model.specs.Names.{Name, same_name}
 use Rattle.omos_model.specs.Namespace.{Space}
 use Rattle.link_model.specs.Laws.{stamp_at}
+use Rattle.place_book.specs.Keys.{is_listed}
 use Rattle.image_cache.specs.declared.item.Item.{Item}
 
 -- the items, the most recently used first, and how many there may be
@@ -41,9 +42,14 @@ is_stamp None n = false
 abbrev pub is_current : Space → Item → Bool
 is_current ns i = list_all (λ s. is_stamp (stamp_at ns s.path) s.stamp) i.image.footprint
 
--- an item that was last found current at the version is current on its namespace
-abbrev pub IsKnown : Space → ℕ → Item → Type 0
-IsKnown ns version i = i.current_at ≡ version → is_current ns i ≡ true
+-- each path that was read has the same stamp, unless its key is one of what was published since the
+-- item was last found current; `published` has a key of each publish, in order
+abbrev pub IsKnown : Space → List ℕ → Item → Type 0
+IsKnown ns published i =
+    All
+    (λ s. is_listed (drop i.current_at published) s.path ≡ false
+    → is_stamp (stamp_at ns s.path) s.stamp ≡ true)
+    i.image.footprint
 
 -- a current item of the path stands at the position; or there is none
 abbrev pub HasFound : List Item → Name → Space → Option ℕ → Type 0

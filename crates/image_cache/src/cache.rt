@@ -50,14 +50,14 @@ fn place_of(items: &Cells, path: &PathName) -> usize
 }
 
 /// The position of the path's current item, or the number of items.
-fn place_found(items: &Cells, path: &PathName, snap: &Snap, version: u64) -> usize
-    requires { All (IsKnown snap.now.entries version) items.now }
+fn place_found(items: &Cells, path: &PathName, snap: &Snap, published: &[u32]) -> usize
+    requires { All (IsKnown snap.now.entries published.now) items.now }
     ensures value { result
         ≡ position_or_len (λ i. is_of path.now i && is_current snap.now.entries i) items.now }
     ensures within { result ≤ length items.now }
 {
     let mut at = 0;
-    'items: while at < items.len() && !is_found(items.get(at), path, snap, version) {
+    'items: while at < items.len() && !is_found(items.get(at), path, snap, published) {
         at += 1;
     }
     at
@@ -113,13 +113,14 @@ impl Cache {
         self.capacity
     }
 
-    /// The position of the path's item, where it is current on this version. Of an item that was
-    /// found current on it before, nothing is looked up.
-    pub fn find(&self, path: &PathName, snap: &Snap, version: u64) -> Option<u32>
-        requires { All (IsKnown snap.now.entries version) self.now.items }
+    /// The position of the path's item, where it is current on this version. `published` has the key
+    /// of the path of each publish that made it; what wasn't published since the item was last found
+    /// current isn't looked up.
+    pub fn find(&self, path: &PathName, snap: &Snap, published: &[u32]) -> Option<u32>
+        requires { All (IsKnown snap.now.entries published.now) self.now.items }
         ensures { HasFound self.now.items path.now snap.now.entries result }
     {
-        let at = place_found(&self.items, path, snap, version);
+        let at = place_found(&self.items, path, snap, published);
         if at < self.items.len() {
             Some(at as u32)
         } else {

@@ -1,14 +1,17 @@
 -- What the spans of a book say of its placements.
-use Rattle.std.proofs.Common.{◌≡◌, ℕ, ◌+◌, ◌*◌, ◌%◌, ◌<◌, ◌≤◌, Bool, true, false}
-use Rattle.std.proofs.Common.{List, [], ◌∷◌, ◌++◌, map, refl, arith, ap, Option, Some, None, sym, ◌∙◌}
-use Rattle.std.proofs.Common.{subst, cond, filter, take, length, get_or, IsTrue, ◌==◌, nat_le, nat_lt}
+use Rattle.std.proofs.Common.{◌≡◌, ℕ, ◌*◌, ◌%◌, ◌<◌, ◌≤◌, Bool, true, false}
+use Rattle.std.proofs.Common.{List, [], ◌∷◌, ◌++◌, map, refl, arith, ap, Option, Some, None, sym}
+use Rattle.std.proofs.Common.{◌∙◌}
+use Rattle.std.proofs.Common.{subst, cond, IsTrue, ◌==◌, nat_le, nat_lt}
 use Rattle.std.specs.List.{All, fold, position_or_len, insert}
 use Rattle.std.specs.Option.{option_map}
 use Rattle.std.proofs.lemmas.Bool.Decides.{nat_tests}
 use Rattle.std.proofs.lemmas.List.{map_push}
-use Rattle.std.proofs.lemmas.List.Elements.{All-cons, All-head, All-tail, All-nil, All-weaker, All-push, All-map, filter_more}
+use Rattle.std.proofs.lemmas.List.Elements.{All-cons, All-head, All-tail, All-nil, All-weaker}
+use Rattle.std.proofs.lemmas.List.Elements.{All-push, All-map}
 use Rattle.std.proofs.lemmas.List.Sorted.{All-permutation, IsPermutation-sym, IsPermutation-trans}
-use Rattle.std.proofs.lemmas.List.Sorted.{IsPermutation-to_front, IsPermutation-cons, IsPermutation-insert}
+use Rattle.std.proofs.lemmas.List.Sorted.{IsPermutation-to_front, IsPermutation-cons}
+use Rattle.std.proofs.lemmas.List.Sorted.{IsPermutation-insert}
 use Rattle.omos_model.specs.ImageParts.{is_range, top}
 use Rattle.omos_model.specs.Names.{Name}
 use Rattle.omos_model.specs.Places.{past, past_of, serves, held, place_for, Stands, CanJoin}
@@ -18,7 +21,8 @@ use Rattle.place_book.specs.Spans.{span_of, after, begins_after, IsSpan}
 use Rattle.omos_model.specs.declared.placement.Placement.{Placement}
 use Rattle.omos_model.specs.declared.placement.Place.TheVariants.{Held, New, NoRoom}
 use Rattle.place_book.specs.declared.span.Span.{Span}
-use Rattle.place_book.proofs.Least.{IsClear, IsProper, fold_least, fold_clear, fold_page, fold_rises}
+use Rattle.place_book.proofs.Least.{IsClear, IsProper, fold_least, fold_clear, fold_page}
+use Rattle.place_book.proofs.Least.{fold_rises}
 use Rattle.place_book.proofs.Order.{AreApart, insert_order}
 use Rattle.place_book.proofs.Words.{from_words, to_words}
 
@@ -195,15 +199,6 @@ joined ps ss p at k c g e = record {
   order = insert_order (span_of p) ss at e (range_of p g).some (proper ps ss k)
       (spans_all (AreApart (span_of p)) ps ss k c.apart) k.order;
 }
-
--- ---- the placements of a path
-
-pub kept_more : (p : Placement → Bool) (xs : List Placement) (i : ℕ) (x : Placement) (before after : List Placement)
-    → i < length xs → x ≡ get_or xs i x → before ≡ filter p (take i xs)
-    → after ≡ before ++ cond (p x) (x ∷ []) [] → after ≡ filter p (take (i + 1) xs)
-kept_more p xs i x before after l e b a =
-    a ∙ ap (λ ys. ys ++ cond (p x) (x ∷ []) []) b
-    ∙ sym (filter_more p xs i x l ∙ ap (λ y. filter p (take i xs) ++ cond (p y) (y ∷ []) []) (sym e))
 
 -- ---- a new place is lawful
 

@@ -7,9 +7,9 @@ ghost use Rattle.std.specs.Option.{option_map};
 ghost use Rattle.omos_model.specs.ImageParts.{is_range};
 ghost use Rattle.omos_model.specs.Places.{place_for, serves, is_of, past_of, CanJoin, Stands};
 ghost use Rattle.place_book.specs.Books.{IsPlacement};
-ghost use Rattle.place_book.specs.Keys.{key_of, key_of_placement};
+ghost use Rattle.place_book.specs.Keys.{key_of_placement};
 
-use crate::key::key_of;
+use crate::key::{key_of, next_of};
 use crate::span::{Span, least_base, position_after};
 use omos_base::{NoMemory, PathName, Row};
 use omos_model::{Place, Placement};
@@ -55,24 +55,8 @@ fn serves_path(placement: &Placement, path: &PathName, pages: u32, lo: u64, hi: 
         && 4096 * u64::from(placement.pages) <= hi - placement.base
 }
 
-/// The same, where most paths are told apart by their keys.
-fn serves_key(
-    placement: &Placement,
-    theirs: u32,
-    path: &PathName,
-    key: u32,
-    pages: u32,
-    lo: u64,
-    hi: u64,
-) -> bool
-    requires theirs { theirs ≡ key_of placement.now.path }
-    requires own { key ≡ key_of path.now }
-    ensures { result ≡ serves path.now pages lo hi placement.now }
-{
-    theirs == key && serves_path(placement, path, pages, lo, hi)
-}
-
-/// The position of the first placement that serves, or the number of placements.
+/// The position of the first placement that serves, or the number of placements. Most paths are
+/// told apart by their keys.
 fn position_held(
     placed: &[Placement],
     keys: &[u32],
@@ -86,11 +70,9 @@ fn position_held(
     ensures within { result ≤ length placed.now }
 {
     let key = key_of(path);
-    let mut at = 0;
-    'placements: while at < keys.len()
-        && !serves_key(&placed[at], keys[at], path, key, pages, lo, hi)
-    {
-        at += 1;
+    let mut at = next_of(keys, 0, key);
+    'placements: while at < placed.len() && !serves_path(&placed[at], path, pages, lo, hi) {
+        at = next_of(keys, at + 1, key);
     }
     at
 }
@@ -130,26 +112,7 @@ fn push_of(
     Ok(())
 }
 
-/// The same, where most paths are told apart by their keys.
-fn push_key(
-    found: &mut Row<Placement>,
-    placement: &Placement,
-    theirs: u32,
-    path: &PathName,
-    key: u32,
-) -> Result<(), NoMemory>
-    requires theirs { theirs ≡ key_of placement.now.path }
-    requires own { key ≡ key_of path.now }
-    ensures { OnOk result
-        (found.new ≡ found.old ++ cond (is_of path.now placement.now) (placement.now ∷ []) []) }
-{
-    if theirs == key {
-        return push_of(found, placement, path);
-    }
-    Ok(())
-}
-
-/// The placements of a path.
+/// The placements of a path. Most paths are told apart by their keys.
 fn found_of(
     alloc: Global,
     placed: &[Placement],
@@ -161,10 +124,10 @@ fn found_of(
 {
     let key = key_of(path);
     let mut found = Row::new(alloc);
-    let mut at = 0;
-    'placements: while at < keys.len() {
-        push_key(&mut found, &placed[at], keys[at], path, key)?;
-        at += 1;
+    let mut at = next_of(keys, 0, key);
+    'placements: while at < placed.len() {
+        push_of(&mut found, &placed[at], path)?;
+        at = next_of(keys, at + 1, key);
     }
     Ok(found)
 }

@@ -4,7 +4,7 @@
 #![tactic(auto)]
 
 mod book;
-mod key;
+pub mod key;
 pub mod laws;
 mod span;
 

@@ -4,7 +4,8 @@ use Rattle.std.proofs.lemmas.List.{length_push}
 use Rattle.link_model.specs.Answer.{answer}
 use Rattle.link_model.specs.Module.{LinkedImage}
 use Rattle.image_cache.specs.Items.{leaving}
-use Rattle.hub_store.proofs.Links.{ticket_room, image_may_end, after_unstored, unstored_ending, after_stored, stored_ending}
+use Rattle.hub_store.proofs.Links.{ticket_room, image_may_end, after_unstored, unstored_ending}
+use Rattle.hub_store.proofs.Links.{after_stored, stored_ending}
 use Rattle.hub_store.proofs.Links.{after_evicting, evicting_ending, facts_apart}
 use Rattle.hub_store.proofs.Storing.{as_new_told, storing_is, storing_none, step_for}
 use Rattle.hub_store.proofs.store.Store.answer.Goals as goal
@@ -43,7 +44,7 @@ returns-then-has_as_new c =
 pub push-requires-in-Some : goal.push-requires-in-Some
 push-requires-in-Some c =
     let ticket = rw (← c.ticket.view_is, ← c.self.view_is) at c.requires.ticket in
-    omega (arith, ticket_room _ _ _ _ _ _ c.self.invariant.0 ticket, ap length c.push.ensures.steps, length_push c.self.inside.record.steps, c.push.ensures.capacity)
+    omega (arith, ticket_room _ _ _ _ _ _ c.self.invariant.0 ticket, ap length c.push.ensures.steps, length_push c.self.inside.history.steps, c.push.ensures.capacity)
 
 pub push-requires-in-Some-2 : goal.push-requires-in-Some-2
 push-requires-in-Some-2 c =
@@ -52,7 +53,7 @@ push-requires-in-Some-2 c =
       arith,
       ticket_room _ _ _ _ _ _ c.self.invariant.0 ticket,
       ap length c.push.ensures.steps,
-      length_push c.self.inside.record.steps,
+      length_push c.self.inside.history.steps,
       c.push.ensures.capacity,
       ap length c.push-in-Some.ensures.steps,
       length_push c.push.new.self.steps,
@@ -113,7 +114,7 @@ returns-in-Some c =
 pub push-requires-2 : goal.push-requires-2
 push-requires-2 c =
     let ticket = rw (← c.ticket.view_is, ← c.self.view_is) at c.requires.ticket in
-    omega (arith, ticket_room _ _ _ _ _ _ c.self.invariant.0 ticket, ap length c.push.ensures.steps, length_push c.self.inside.record.steps, c.push.ensures.capacity)
+    omega (arith, ticket_room _ _ _ _ _ _ c.self.invariant.0 ticket, ap length c.push.ensures.steps, length_push c.self.inside.history.steps, c.push.ensures.capacity)
 
 pub invariant_of-self-2 : goal.invariant_of-self-2
 invariant_of-self-2 c =

@@ -9,10 +9,16 @@ use Rattle.image_cache.specs.Items.{as_found, path_of}
 use Rattle.image_cache.specs.declared.item.Item.{Item}
 use Rattle.history_book.specs.Told.{namespace_after}
 use Rattle.hub_store.proofs.Facts.{same_item}
+use Rattle.hub_store.proofs.Kept.{all_known}
 use Rattle.hub_store.proofs.Links.{found_at, hit_told, after_hit, found_answers}
 use Rattle.hub_store.proofs.Requests.{after_missed, after_asked}
 use Rattle.hub_store.proofs.Tickets.{ticket_now, unplaced_now}
 use Rattle.hub_store.proofs.store.Store.ask.Goals as goal
+
+pub find-requires : goal.find-requires
+find-requires c =
+    rw c.published.ensures
+    (all_known c.self.inside.history.steps _ _ c.self.invariant.0.told.space_is c.self.invariant.0.told.kept)
 
 pub invariant_of-self : goal.invariant_of-self
 invariant_of-self c =
@@ -108,4 +114,4 @@ returns c =
       c.tally-tally.ensures.value,
       append_assoc,
     )
-    (room, refl, path, subst (λ (l : LinkedImage). answer (namespace_after c.self.inside.record.steps) c.args.path.now l.base ≡ Ok l.bytes) (sym c.in-Ok-twin.ensures) answers, refl)
+    (room, refl, path, subst (λ (l : LinkedImage). answer (namespace_after c.self.inside.history.steps) c.args.path.now l.base ≡ Ok l.bytes) (sym c.in-Ok-twin.ensures) answers, refl)

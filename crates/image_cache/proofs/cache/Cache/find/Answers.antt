@@ -1,7 +1,8 @@
 use Rattle.std.proofs.Common.{◌&&◌}
 use Rattle.image_cache.specs.Items.{is_of, is_current}
 use Rattle.image_cache.specs.declared.item.Item.{Item}
-use Rattle.image_cache.proofs.Items.{passes, any_found}
+use Rattle.place_book.proofs.Keys.{any_found}
+use Rattle.image_cache.proofs.Items.{passes}
 use Rattle.image_cache.proofs.cache.Cache.find.Goals as goal
 
 pub returns-then-at-len : goal.returns-then-at-len
