@@ -11,6 +11,10 @@ STORE_CASES := crates/store_cases/out/store_cases
 
 TURNS := crates/turn_bench/out/turn_bench
 
+WIRE_CASES := crates/wire_cases/out/wire_cases
+
+SHARED_CASES := crates/shared_cases/out/shared_cases
+
 # Where `make install` puts the programs, the scripts of contrib/, their pages and their data.
 PREFIX ?= /usr/local
 DESTDIR ?=
@@ -19,7 +23,7 @@ COMPLETIONS := $(PREFIX)/share/bash-completion/completions
 SCRIPTS := omos-explain omos-put-dir omos-run
 
 .PHONY: help try try-test build demo server live test trials contrib docs examples real links \
-	stores turns sweep bench clean install uninstall
+	stores turns wires shares sweep bench memory clean install uninstall
 
 help:
 	@echo "make try     builds omosd and omos with no proof, in a minute or two, and runs the demo"
@@ -36,6 +40,7 @@ help:
 	@echo "make real    compares what is kept of compilers' objects with readelf, and runs with ld's"
 	@echo "make sweep   compares links of some 8,000 blueprints with plain descent through names,"
 	@echo "             4,000 texts with a slow reader of the grammar, and versions with plain lists"
+	@echo "make memory  refuses each allocation of a run in turn"
 	@echo "make bench   times it beside other linkers, and counts instructions"
 	@echo "rt ci        proves and tests everything; .ci/run, the test command, then runs make live"
 
@@ -145,12 +150,27 @@ turns:
 	@cd crates/turn_bench && rt run -- 2 1000 > out.log 2>&1 || { tail -n 20 out.log; exit 1; }
 	@rm -f crates/turn_bench/out.log
 
+wires:
+	@rm -f $(WIRE_CASES)
+	@cd crates/wire_cases && rt run > out.log 2>&1; test -x out/wire_cases || \
+	    { tail -n 20 out.log; exit 1; }
+	@rm -f crates/wire_cases/out.log
+
+shares:
+	@rm -f $(SHARED_CASES)
+	@cd crates/shared_cases && rt run > out.log 2>&1; test -x out/shared_cases || \
+	    { tail -n 20 out.log; exit 1; }
+	@rm -f crates/shared_cases/out.log
+
+memory: build
+	@tests/memory.py $(OMOSD) $(OMOS)
+
 sweep: links
 	@tests/sweep.py $(LINK_CASES)
 	@tests/texts.py $(LINK_CASES)
 	@tests/versions.py $(LINK_CASES)
 
-bench: build links stores turns
+bench: build links stores turns wires shares
 	@bench/once.sh $(OMOSD)
 	@bench/objects.sh $(OMOSD)
 	@bench/operators.sh $(LINK_CASES)
@@ -160,6 +180,9 @@ bench: build links stores turns
 	@bench/store.sh $(STORE_CASES)
 	@bench/lock.sh $(TURNS)
 	@bench/session.sh $(OMOSD)
+	@bench/wire.sh $(WIRE_CASES)
+	@bench/shared.sh $(OMOSD) $(SHARED_CASES)
+	@bench/misses.py $(OMOSD)
 	@bench/hits.sh $(OMOSD) $(OMOS)
 	@bench/wrapping.sh $(OMOSD) $(OMOS)
 
