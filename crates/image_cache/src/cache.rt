@@ -113,9 +113,9 @@ impl Cache {
         self.capacity
     }
 
-    /// The position of the path's item, where it is current on this version. `published` has the key
-    /// of the path of each publish that made it; what wasn't published since the item was last found
-    /// current isn't looked up.
+    /// The position of the path's item, where it is current on this version. `published` has the
+    /// key of the path of each publish that made it; what wasn't published since the item was last
+    /// found current isn't looked up.
     pub fn find(&self, path: &PathName, snap: &Snap, published: &[u32]) -> Option<u32>
         requires { All (IsKnown snap.now.entries published.now) self.now.items }
         ensures { HasFound self.now.items path.now snap.now.entries result }

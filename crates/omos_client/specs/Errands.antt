@@ -1,9 +1,11 @@
 -- What the words of the client's command line ask for.
-use Rattle.std.specs.Prelude.{ℕ, nat_le, Bool, true, List, [], ◌∷◌, length, codes, Option, None, Some}
+use Rattle.std.specs.Prelude.{ℕ, nat_le, Bool, true, List, [], ◌∷◌, length, codes, Option, None}
+use Rattle.std.specs.Prelude.{Some}
 use Rattle.std.specs.Prelude.{if◌then◌else◌}
 use Rattle.command_words.specs.Words.{is_word}
 use Rattle.omos_client.specs.declared.errand.Command.{Command}
-use Rattle.omos_client.specs.declared.errand.Command.TheVariants.{Put, Blueprint, Link, Where, Stats, Flush}
+use Rattle.omos_client.specs.declared.errand.Command.TheVariants.{Put, Blueprint, Link, Where}
+use Rattle.omos_client.specs.declared.errand.Command.TheVariants.{Stats, Flush}
 use Rattle.omos_client.specs.declared.errand.Errand.{Errand}
 
 -- a command, with its path and its file, which are empty where it has none

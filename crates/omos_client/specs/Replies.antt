@@ -1,5 +1,6 @@
 -- The bytes that come from the server.
-use Rattle.std.specs.Prelude.{◌≡◌, ◌⊎◌, ℕ, ◌+◌, ◌<◌, Bool, true, false, List, ◌++◌, length, ⊤, Option}
+use Rattle.std.specs.Prelude.{◌≡◌, ◌⊎◌, ℕ, ◌+◌, ◌<◌, Bool, true, false, List, ◌++◌, length, ⊤}
+use Rattle.std.specs.Prelude.{Option}
 use Rattle.std.specs.Prelude.{Result, Ok, Err}
 use Rattle.omos_base.specs.Fields.{number_at}
 use Rattle.omos_outside.specs.Stream.{Stream, Gives, IsAtEnd}
@@ -10,9 +11,11 @@ use Rattle.omos_wire.specs.Answer as reply
 use Rattle.omos_wire.specs.Read.{answer_in}
 use Rattle.omos_wire.specs.declared.owned_reply.ReplyParts.{ReplyParts}
 use Rattle.omos_client.specs.declared.errand.Command.{Command}
-use Rattle.omos_client.specs.declared.errand.Command.TheVariants.{Put, Blueprint, Link, Where, Stats, Flush}
+use Rattle.omos_client.specs.declared.errand.Command.TheVariants.{Put, Blueprint, Link, Where}
+use Rattle.omos_client.specs.declared.errand.Command.TheVariants.{Stats, Flush}
 use Rattle.omos_client.specs.declared.receiving.Unheard.{Unheard}
-use Rattle.omos_client.specs.declared.receiving.Unheard.TheVariants.{SourceFailed, Ended, NotReply, NoMemory}
+use Rattle.omos_client.specs.declared.receiving.Unheard.TheVariants.{SourceFailed, Ended, NotReply}
+use Rattle.omos_client.specs.declared.receiving.Unheard.TheVariants.{NoMemory}
 
 -- why a reply wasn't read, by why its bytes weren't
 abbrev pub cause_of : Unread → Unheard

@@ -53,7 +53,8 @@ Follows ends.ServerNoMemory ask before now = HasTold ends.ServerNoMemory ask bef
 Follows ends.OutputFailed ask before now = HasTold ends.OutputFailed ask before now
 Follows ends.FileFailed ask before now = IsSilent before now
 Follows ends.SourceFailed ask before now = IsSilent before now
-Follows ends.Ended ask before now = HasHeard (Err unheard.Ended) ask before now × IsSilent before now
+Follows ends.Ended ask before now =
+    HasHeard (Err unheard.Ended) ask before now × IsSilent before now
 Follows ends.NotReply ask before now =
     HasHeard (Err unheard.NotReply) ask before now × IsSilent before now
 Follows ends.NoMemory ask before now = IsSilent before now

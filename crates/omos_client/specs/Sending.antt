@@ -8,9 +8,11 @@ use Rattle.omos_wire.specs.Message.{Message, frame}
 use Rattle.omos_wire.specs.Message as message
 use Rattle.omos_client.specs.Errands.{Asked}
 use Rattle.omos_client.specs.declared.errand.Command.{Command}
-use Rattle.omos_client.specs.declared.errand.Command.TheVariants.{Put, Blueprint, Link, Where, Stats, Flush}
+use Rattle.omos_client.specs.declared.errand.Command.TheVariants.{Put, Blueprint, Link, Where}
+use Rattle.omos_client.specs.declared.errand.Command.TheVariants.{Stats, Flush}
 use Rattle.omos_client.specs.declared.sending.Unsent.{Unsent}
-use Rattle.omos_client.specs.declared.sending.Unsent.TheVariants.{FileFailed, FileTooLong, SinkFailed, NoMemory}
+use Rattle.omos_client.specs.declared.sending.Unsent.TheVariants.{FileFailed, FileTooLong}
+use Rattle.omos_client.specs.declared.sending.Unsent.TheVariants.{SinkFailed, NoMemory}
 
 -- files by their names, where they are told
 abbrev pub Files : Type 0

@@ -10,7 +10,9 @@ use Rattle.omos_wire.specs.Answer as reply
 use Rattle.omos_client.specs.Lines.{line_for, status_for}
 use Rattle.omos_client.specs.Sending.{Files}
 use Rattle.omos_client.specs.declared.ending.Ending.{Ending}
-use Rattle.omos_client.specs.declared.ending.Ending.TheVariants.{Done, Refused, OutputFailed, FileFailed, NoMemory, ServerNoMemory}
+use Rattle.omos_client.specs.declared.ending.Ending.TheVariants.{Done, Refused, OutputFailed}
+use Rattle.omos_client.specs.declared.ending.Ending.TheVariants.{FileFailed, NoMemory}
+use Rattle.omos_client.specs.declared.ending.Ending.TheVariants.{ServerNoMemory}
 
 -- where the files are told, the file holds these bytes now, and no other file changed
 abbrev pub IsWritten : Files → Files → Name → List ℕ → Type 0
@@ -37,7 +39,8 @@ EndsBy _ a = ⊥
 
 -- The image was written to its file, and then the line to the output; or a part of the line, where
 -- that failed; or, where the file or memory failed, nothing was printed.
-abbrev pub Tells : Ending → Answer → Name → Files → Files → Option (List ℕ) → Option (List ℕ) → Type 0
+abbrev pub Tells : Ending → Answer → Name → Files → Files → Option (List ℕ) →
+    Option (List ℕ) → Type 0
 Tells Done a file files files' before now =
     (status_for a ≡ 0) × IsKept a files files' file × Appends before now (line_for a)
 Tells Refused a file files files' before now =

@@ -147,7 +147,8 @@ impl Hub {
         reply
     }
 
-    /// Publishes an entry of this size, in bytes, under the path, or notes that there was no memory.
+    /// Publishes an entry of this size, in bytes, under the path, or notes that there was no
+    /// memory.
     pub fn put<R: Wait>(
         &self,
         rt: &R,
@@ -205,8 +206,8 @@ impl Hub {
         self.lock.give(pass, held);
     }
 
-    /// Ends the hub once all its passes are back, and gives its store, whose record begins with what
-    /// each pass had seen and holds no steps of others.
+    /// Ends the hub once all its passes are back, and gives its store, whose record begins with
+    /// what each pass had seen and holds no steps of others.
     pub fn close(self, mut passes: Vec<Pass<Step>>) -> Store
         requires { AreAll self passes.items }
         ensures all { HasAll passes.items result.steps }

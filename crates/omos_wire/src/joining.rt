@@ -17,7 +17,8 @@ pub(crate) fn join(room: &mut Vec<u8>, first: &[u8], second: &[u8]) -> bool
 
 /// Appends a placement's bytes. It is false where there is no memory.
 fn push_span(room: &mut Vec<u8>, placement: &Placement) -> bool
-    ensures { result ≡ true → room.new.items ≡ room.old.items ++ span_bytes (span_of placement.now) }
+    ensures { result ≡ true
+        → room.new.items ≡ room.old.items ++ span_bytes (span_of placement.now) }
 {
     let mut bytes = ArrayVec::<u8, 12>::new();
     put_span(&mut bytes, placement);

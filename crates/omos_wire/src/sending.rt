@@ -57,8 +57,8 @@ fn write_pieces<K: Sink>(sink: &mut K, placements: &[Placement]) -> Sent
     }
 }
 
-/// Writes the frame of a list of placements by one write, or some at a time where there is no memory
-/// for joining them.
+/// Writes the frame of a list of placements by one write, or some at a time where there is no
+/// memory for joining them.
 fn write_places<K: Sink>(sink: &mut K, room: &mut Vec<u8>, placements: &[Placement]) -> Sent
     requires { 5 + 12 * length placements.now ≤ longest_reply }
     ensures wrote { Wrote result (K.held sink.old) (K.held sink.new)

@@ -1,5 +1,6 @@
 -- What holds of a worker between its calls.
-use Rattle.std.specs.Prelude.{◌≡◌, ◌⊎◌, ℕ, ◌+◌, ◌-◌, ◌*◌, ◌^◌, ◌<◌, ◌≤◌, Bool, true, false, List, [], ◌∷◌, ◌++◌, length, Option, None, Some}
+use Rattle.std.specs.Prelude.{◌≡◌, ◌⊎◌, ℕ, ◌+◌, ◌-◌, ◌*◌, ◌^◌, ◌<◌, ◌≤◌, Bool, true, false, List}
+use Rattle.std.specs.Prelude.{[], ◌∷◌, ◌++◌, length, Option, None, Some}
 use Rattle.turn_lock.specs.Knowledge.{TableId, Knowledge}
 use Rattle.omos_outside.specs.Links.{DoorState, GivenBack}
 use Rattle.history_book.specs.declared.step.Step.{Step}
@@ -45,7 +46,8 @@ HasBack pass None (Some now) count = ⊥
 HasBack pass (Some before) None count = ⊥
 
 -- a worker of this hub, between its calls
-pub record Fits (hub : TableId) (pass : Knowledge Step) (start door : DoorState) (crossed calls links : ℕ) (stopped failed : Bool) : Type 0 where
+pub record Fits (hub : TableId) (pass : Knowledge Step) (start door : DoorState)
+    (crossed calls links : ℕ) (stopped failed : Bool) : Type 0 where
   pub lock : pass.lock ≡ hub
   pub idle : pass.holds_turn ≡ false
   pub legal : IsLegal pass.first pass.second pass.seen

@@ -1,5 +1,6 @@
 -- What a run of workers does to the slots.
-use Rattle.std.specs.Prelude.{◌≡◌, ◌⊎◌, ℕ, ◌+◌, ◌-◌, ◌<◌, ◌≤◌, nat_lt, Bool, true, false, ◌||◌, List, [], ◌∷◌, ◌++◌, length, map, drop, Option, None, Some}
+use Rattle.std.specs.Prelude.{◌≡◌, ◌⊎◌, ℕ, ◌+◌, ◌-◌, ◌<◌, ◌≤◌, nat_lt, Bool, true, false, ◌||◌}
+use Rattle.std.specs.Prelude.{List, [], ◌∷◌, ◌++◌, length, map, drop, Option, None, Some}
 use Rattle.turn_lock.specs.Steps.{GoesOn, AllBelow, steps_by}
 use Rattle.turn_lock.specs.Knowledge.{TableId, Knowledge}
 use Rattle.omos_outside.specs.Links.{DoorState, GivenBack, HasOut}
@@ -113,7 +114,8 @@ parts_of d = d.parts
 abbrev pub IsOf : Line → ℕ → Drawn → Type 0
 IsOf line workers d = (d.line ≡ line) × (d.workers ≡ workers)
 
--- all seats of a counter have got no more numbers than there are, and all of them where one got none
+-- all seats of a counter have got no more numbers than there are, and all of them where one got
+-- none
 pub record TellAll (line : Line) (workers : ℕ) (seats : List Drawn) : Type 0 where
   pub within : total got_of seats ≤ line.sessions
   pub all :
@@ -126,9 +128,10 @@ pub record TellAll (line : Line) (workers : ℕ) (seats : List Drawn) : Type 0 w
 abbrev pub is_stopped : DoorState → DoorState → Bool
 is_stopped before after = after.is_shut || nat_lt before.faults after.faults
 
--- where the door tells its links, it was given back as many as it handed out, and the pass of this number served
--- them, on a beginning of the record that has all steps of this number
-abbrev pub ServedBack : ℕ → ℕ → List Step → ℕ → ℕ → Option (List GivenBack) → Option (List GivenBack) → Type 0
+-- where the door tells its links, it was given back as many as it handed out, and the pass of this
+-- number served them, on a beginning of the record that has all steps of this number
+abbrev pub ServedBack : ℕ → ℕ → List Step → ℕ → ℕ → Option (List GivenBack) →
+    Option (List GivenBack) → Type 0
 ServedBack cache room steps number count None None = Unit {0}
 ServedBack cache room steps number count None (Some now) = ⊥
 ServedBack cache room steps number count (Some before) None = ⊥
@@ -137,7 +140,8 @@ ServedBack cache room steps number count (Some before) (Some now) =
     × (seen : List Step) × GoesOn seat_of (number ∷ []) seen steps
     × (turns : List ℕ) × WasServed cache room number seen turns (drop (length before) now)
 
-pub record IsServed (cache room : ℕ) (steps : List Step) (number : ℕ) (before after : DoorState) : Type 0 where
+pub record IsServed (cache room : ℕ) (steps : List Step) (number : ℕ)
+    (before after : DoorState) : Type 0 where
   pub links : before.links ≤ after.links
   pub faults : before.faults ≤ after.faults
   pub back :
@@ -172,7 +176,8 @@ failed_between (b ∷ before) (a ∷ after) =
     one_if (nat_lt b.door.faults a.door.faults) + failed_between before after
 
 -- the slots served so many links, and this store was closed
-pub record Ran (cache room sessions : ℕ) (before after : List SlotState) (served : ℕ) (failed : Bool) (store : StoreParts) : Type 0 where
+pub record Ran (cache room sessions : ℕ) (before after : List SlotState) (served : ℕ)
+    (failed : Bool) (store : StoreParts) : Type 0 where
   pub limits : (store.limits.cache ≡ cache) × (store.limits.steps ≡ room)
   pub legal : IsLegal cache room store.steps
   pub below : AllBelow seat_of (length before + 1) store.steps

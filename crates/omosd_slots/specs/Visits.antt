@@ -17,8 +17,8 @@ abbrev pub Climbs : ℕ → List ℕ → ℕ → Type 0
 Climbs low [] high = low ≤ high
 Climbs low (n ∷ ns) high = (low ≤ n) × Climbs n ns high
 
--- a link that was served: what was seen of the record before and after, the lengths that it had at the turns, and
--- the link as it was given back
+-- a link that was served: what was seen of the record before and after, the lengths that it had at
+-- the turns, and the link as it was given back
 pub record Visit : Type 0 where
   pub before : List Step
   pub after : List Step
@@ -64,7 +64,8 @@ module _ (cache room seat : ℕ) where
   AreVisits first [] last = last ≡ first
   AreVisits first (v ∷ vs) last = (v.before ≡ first) × IsVisit v × AreVisits v.after vs last
 
-  -- the seat, which had no step before, served these links in order, with these turns, and has seen this record
+  -- the seat, which had no step before, served these links in order, with these turns, and has seen
+  -- this record
   pub record WasServed (seen : List Step) (turns : List ℕ) (links : List GivenBack) : Type 0 where
     pub first : List Step
     pub none : steps_by seat_of seat first ≡ []

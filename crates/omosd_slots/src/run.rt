@@ -3,7 +3,9 @@
 ghost use Rattle.std.specs.Prelude.{◌≡◌, ◌<◌, ◌≤◌, [], length, map, vec_capacity, All, IfOk, OnErr};
 ghost use Rattle.worker_line.specs.Drawn.{IsNew};
 ghost use Rattle.omos_hub.specs.Passes.{AreNew};
-ghost use Rattle.omosd_slots.specs.Slots.{slots_of, seated_from, slot_of, pass_of, draws_of, links_of, failed_of, total, AreOpen, IsOf, IsTold, TellAll, Ran};
+ghost use Rattle.omosd_slots.specs.Slots.{slots_of, seated_from, slot_of, pass_of, draws_of};
+ghost use Rattle.omosd_slots.specs.Slots.{links_of, failed_of, total, AreOpen, IsOf, IsTold};
+ghost use Rattle.omosd_slots.specs.Slots.{TellAll, Ran};
 
 use crate::moves::take_first;
 use crate::slot::Slot;

@@ -27,8 +27,8 @@ pub(crate) struct Case<'a> {
 }
 
 impl<'a> Case<'a> {
-    /// The case of a text whose first lines are `NAME`, `WORDS` and `STATUS ROOM TOTALS`, followed by
-    /// the workers.
+    /// The case of a text whose first lines are `NAME`, `WORDS` and `STATUS ROOM TOTALS`, followed
+    /// by the workers.
     pub(crate) fn of(text: &'a str) -> Result<Case<'a>> {
         let (name, rest) = text.split_once('\n').context("a name")?;
         let (words, rest) = rest.split_once('\n').context("the words")?;

@@ -19,8 +19,8 @@ const ROOM: u32 = 6_000_000;
 /// A slot in memory.
 pub(crate) type MemorySlot = Slot<MemoryDoor, HoldGate>;
 
-/// The two ends of a session's link, from a row `NAME STEP` or `NAME STEP FLAG AT`: frames come from
-/// the file NAME.in, at most STEP bytes a read, and FLAG goes up once AT bytes were sent.
+/// The two ends of a session's link, from a row `NAME STEP` or `NAME STEP FLAG AT`: frames come
+/// from the file NAME.in, at most STEP bytes a read, and FLAG goes up once AT bytes were sent.
 fn link_of<R: Files + Alloc<A = Global>>(
     rt: &R,
     alloc: Global,
@@ -60,9 +60,9 @@ fn links_of<R: Files + Alloc<A = Global>>(
     Ok(links)
 }
 
-/// A worker's slot, from a line `FLAG FAILS REACHED UNTIL` and a row for each session: the door waits
-/// for FLAG and fails when it is asked for the FAILS-th time, at 0 never; at its first crossing the
-/// gate raises REACHED and waits for UNTIL.
+/// A worker's slot, from a line `FLAG FAILS REACHED UNTIL` and a row for each session: the door
+/// waits for FLAG and fails when it is asked for the FAILS-th time, at 0 never; at its first
+/// crossing the gate raises REACHED and waits for UNTIL.
 pub(crate) fn slot_of<R: Files + Alloc<A = Global>>(
     rt: &R,
     alloc: Global,

@@ -1,6 +1,6 @@
-//! Runs the rows of cases.txt: a stream and the requests that are cut from it, a frame and the reply
-//! that is read from it, or what a client finds and leaves. A line a row is printed: `ok NAME`, or
-//! `NAME: got ..`.
+//! Runs the rows of cases.txt: a stream and the requests that are cut from it, a frame and the
+//! reply that is read from it, or what a client finds and leaves. A line a row is printed: `ok
+//! NAME`, or `NAME: got ..`.
 //!
 //! The wanted answers were written by tests/wire.py from the tables of docs/FORMATS.md.
 #![tactic(auto)]
