@@ -1,0 +1,7 @@
+pub mod Adding
+pub mod Ranged
+pub mod Joined
+pub mod Naming
+pub mod Sizes
+pub mod Summing
+pub mod Talking
