@@ -11,6 +11,7 @@ use workload_calls::omosd_workload;
 const ROOM: u32 = 160_000_000;
 
 /// What a run gave.
+#[derive(Drop)]
 pub(crate) struct Outcome {
     pub(crate) status: u8,
     pub(crate) sink: MemorySink,

@@ -19,6 +19,7 @@ struct Line<'a> {
 }
 
 /// A session: its first line `NAME | WORDS | STATUS`, and perhaps `| FAULT`, and its requests.
+#[derive(Drop)]
 pub(crate) struct Session<'a> {
     pub(crate) name: &'a str,
     words: &'a str,

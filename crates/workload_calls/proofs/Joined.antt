@@ -1,5 +1,5 @@
 -- Texts that were put together piece by piece.
-use Rattle.std.proofs.Common.{◌≡◌, ℕ, ◌+◌, ◌*◌, ◌≤◌, List, [], ◌∷◌, ◌++◌, length, refl, sym, ap, ◌∙◌, arith, append_assoc, length-append}
+use Rattle.std.proofs.Common.{◌≡◌, ℕ, ◌+◌, List, [], ◌++◌, length, ap, ◌∙◌, arith, append_assoc, length-append}
 
 pub line_by : (t1 d1 t2 d2 t3 d3 t4 d4 t5 d5 t6 d6 t7 d7 e l0 l1 l2 l3 l4 l5 l6 l7 l8 : List ℕ)
     → l0 ≡ [] → l1 ≡ l0 ++ t1 ++ d1 → l2 ≡ l1 ++ t2 ++ d2 → l3 ≡ l2 ++ t3 ++ d3 → l4 ≡ l3 ++ t4 ++ d4

@@ -1,5 +1,4 @@
 pub mod Adding
-pub mod Ranged
 pub mod Joined
 pub mod Naming
 pub mod Sizes

@@ -1,5 +1,5 @@
 -- The objects of a workload are small.
-use Rattle.std.proofs.Common.{◌≡◌, ℕ, ◌+◌, ◌*◌, ◌-◌, ◌<◌, ◌≤◌, ◌^◌, ◌/◌, ◌%◌, ◌==◌, Bool, true, false, cond, List, [], ◌∷◌, ◌++◌, length, arith, refl, sym, ap, subst, ◌∙◌, length-append, Ok, Err}
+use Rattle.std.proofs.Common.{◌≡◌, ℕ, ◌+◌, ◌*◌, ◌-◌, ◌<◌, ◌≤◌, ◌^◌, ◌==◌, Bool, true, false, cond, List, [], ◌∷◌, ◌++◌, length, arith, refl, sym, ap, subst, ◌∙◌, length-append, Ok, Err}
 use Rattle.std.proofs.lemmas.List.{length-replicate}
 use Rattle.std.specs.Prelude.{codes, decimal, IfOk, Option, Result, Some, None, negsuc}
 use Rattle.std.specs.List.{AllByRecursion}
@@ -16,9 +16,9 @@ use Rattle.workload.specs.declared.plain.PlainSymbol.{PlainSymbol}
 use Rattle.workload.specs.declared.plan.Plan.{Plan}
 use Rattle.workload.specs.Headers.{file_header, section_headers}
 use Rattle.workload.specs.Plain.{IsSmall, plain_bytes, plain_plan, placed}
-use Rattle.workload.specs.Plan.{next_eight, plan_of}
+use Rattle.workload.specs.Plan.{plan_of}
 use Rattle.workload.specs.Tables.{no_symbol, rela_of, rela_table, string_table, sym_of, symbol_table, symbols_from, terminated}
-use Rattle.workload_calls.specs.Objects.{call_code, call_of, called, function, next_of, numbered, object, own_symbols, start, symbols_of}
+use Rattle.workload_calls.specs.Objects.{call_code, call_of, called, function, next_of, object, start, symbols_of}
 use Rattle.workload_calls.proofs.Naming.{short_number}
 
 -- ---- records

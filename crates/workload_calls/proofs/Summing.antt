@@ -1,21 +1,21 @@
 -- What replies say in all, as it is summed up from their frames.
-use Rattle.std.proofs.Common.{◌≡◌, ℕ, zero, suc, ◌+◌, ◌-◌, ◌*◌, ◌^◌, ◌<◌, ◌≤◌, Bool, true, false, cond, List, [], ◌∷◌, ◌++◌, length, refl, sym, ap, subst, ◌∙◌, arith, append_assoc, length-append, take, drop, Option, Some, None, Ok, Err}
+use Rattle.std.proofs.Common.{◌≡◌, ℕ, ◌+◌, ◌-◌, ◌^◌, ◌<◌, ◌≤◌, false, cond, List, [], ◌∷◌, ◌++◌, length, refl, sym, ap, subst, ◌∙◌, arith, append_assoc, length-append, take, drop, Some, None, Ok, Err}
 use Rattle.std.proofs.Math.Seq.{take-append_seam, drop-append_seam}
 use Rattle.std.proofs.lemmas.List.Sums.{sum_by-cons}
 use Rattle.std.specs.List.{AllByRecursion, flat_map}
-use Rattle.std.specs.Prelude.{IfOk, Result, count_by, sum_by, fold, slice_index}
+use Rattle.std.specs.Prelude.{IfOk, Result, count_by, sum_by}
 use Rattle.byteorder.specs.Numbers.{little_number-reads_back}
 use Rattle.omos_base.specs.Endian.{little_bytes}
 use Rattle.omos_base.specs.Fields.{number_at}
 use Rattle.hub_store.specs.declared.counts.Counts.{Counts as Totals}
 use Rattle.omos_wire.specs.Answer.{Answer, Published, Image, Refused, Places, Counts, Flushed, Bye, NoMemory, Full, KeptFull, payload, reply_frame}
-use Rattle.omos_wire.proofs.Fitting.{behind, kind_in, payload_is}
+use Rattle.omos_wire.proofs.Fitting.{behind, payload_is}
 use Rattle.workload_calls.specs.declared.replies.Figures.{Figures}
 use Rattle.workload_calls.specs.declared.replies.Said.{Said}
 use Rattle.workload_calls.specs.declared.replies.Said.TheVariants as said
 use Rattle.workload_calls.specs.declared.replies.Sums.{Sums}
 use Rattle.workload_calls.specs.Lines.{Tells, numbers_line}
-use Rattle.workload_calls.specs.Replies.{AreFigures, HadMemory, HasFigures, IsWithin, figures_at, figures_in, figures_of, file_size, first_figures, is_image, no_sums, replies_bytes, said_at, said_of, sums_from, with_said}
+use Rattle.workload_calls.specs.Replies.{AreFigures, HadMemory, HasFigures, IsWithin, figures_at, figures_of, file_size, first_figures, is_image, no_sums, replies_bytes, said_at, said_of, sums_from, with_said}
 
 -- ---- one frame
 

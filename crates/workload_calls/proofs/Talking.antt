@@ -1,16 +1,11 @@
 -- What a session says that came to its end over the frames of a workload.
-use Rattle.std.proofs.Common.{◌≡◌, ◌⊎◌, ℕ, zero, suc, ◌+◌, ◌-◌, ◌^◌, ◌<◌, ◌≤◌, Bool, true, List, [], ◌∷◌, ◌++◌, length, refl, sym, ap, subst, ◌∙◌, arith, append_assoc, append-nil, length-append, map, inl, inr, Option, Some}
+use Rattle.std.proofs.Common.{◌≡◌, ℕ, ◌+◌, ◌-◌, ◌^◌, ◌<◌, ◌≤◌, true, List, [], ◌∷◌, ◌++◌, length, refl, sym, ap, subst, ◌∙◌, arith, append_assoc, append-nil, length-append, map, inl, inr, Some}
 use Rattle.std.specs.List.{AllByRecursion, flat_map}
 use Rattle.std.proofs.lemmas.List.Sums.{count_by-le-length}
-use Rattle.std.specs.Prelude.{filter_map}
-use Rattle.omos_base.specs.Limits.{Counts as Limits}
 use Rattle.omos_model.specs.Numbers.{numbers_from}
 use Rattle.omos_model.proofs.Ranges.{length-filter_map}
 use Rattle.omos_outside.specs.Stream.{Stream}
-use Rattle.omos_model.specs.declared.entry.Entry.{Entry}
-use Rattle.history_book.specs.Legal.{IsLegal}
 use Rattle.history_book.specs.Steps.{is_evicted, is_hit_step, placement_of, put_of}
-use Rattle.history_book.specs.Told.{version_after}
 use Rattle.history_book.specs.declared.step.Look.TheVariants as look
 use Rattle.history_book.specs.declared.step.Step.{Step}
 use Rattle.history_book.specs.declared.step.Step.TheVariants.{Looked}
@@ -27,10 +22,10 @@ use Rattle.omos_session.proofs.TurnLaws.{moves_extend}
 use Rattle.omos_wire.proofs.Again.{same_first}
 use Rattle.omos_wire.specs.Answer.{Answer, reply_frame}
 use Rattle.omos_wire.specs.Answer as answer
-use Rattle.omos_wire.specs.Message.{End, Fits, Link, Message, Stats, frame}
+use Rattle.omos_wire.specs.Message.{End, Fits, Message, Stats, frame}
 use Rattle.omos_wire.specs.Message as message
 use Rattle.workload_calls.specs.Replies.{AreFigures, HasFigures, figures_of, replies_bytes}
-use Rattle.workload_calls.specs.Stream.{all_path, links, objects, others, program_path, programs, put_all, put_object, put_program, stream_bytes, twice, workload}
+use Rattle.workload_calls.specs.Stream.{links, objects, others, program_path, programs, put_object, put_program, stream_bytes, twice, workload}
 use Rattle.workload_calls.specs.Workload.{HasTalked, cache, replies, room}
 
 all_both : {X : Type 0} (P : X → Type 0) (xs ys : List X) → AllByRecursion P xs → AllByRecursion P ys → AllByRecursion P (xs ++ ys)

@@ -1,13 +1,13 @@
 -- What the replies of a session say in all.
 use Rattle.std.specs.Prelude.{ℕ, ◌+◌, ◌-◌, ◌<◌, ◌≤◌, ◌^◌, ◌≡◌, ◌==◌, ◌&&◌, if◌then◌else◌}
-use Rattle.std.specs.Prelude.{Bool, true, false, List, [], ◌∷◌, length, count_by, sum_by}
+use Rattle.std.specs.Prelude.{Bool, true, false, List, length}
 use Rattle.std.specs.Prelude.{filter_map, fold, slice_index, Option, Some, None}
 use Rattle.std.specs.List.{flat_map}
 use Rattle.omos_base.specs.Fields.{number_at}
 use Rattle.history_book.specs.Told.{first_of}
 use Rattle.hub_store.specs.declared.counts.Counts.{Counts as Totals}
-use Rattle.omos_wire.specs.Answer.{Answer, Published, Image, Refused, Places, Counts, Flushed, Bye}
-use Rattle.omos_wire.specs.Answer.{NoMemory, Full, KeptFull, reply_frame}
+use Rattle.omos_wire.specs.Answer.{Answer, Image, Counts}
+use Rattle.omos_wire.specs.Answer.{NoMemory, reply_frame}
 use Rattle.workload_calls.specs.declared.replies.Figures.{Figures}
 use Rattle.workload_calls.specs.declared.replies.Said.{Said}
 use Rattle.workload_calls.specs.declared.replies.Said.TheVariants as said

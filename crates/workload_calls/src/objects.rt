@@ -1,9 +1,7 @@
 //! The objects of a workload.
 
-ghost use Rattle.std.specs.Prelude.{◌≡◌, ◌+◌, ◌*◌, ◌≤◌, ◌<◌, ◌++◌, ◌==◌, length, IfOk, Some, None};
-ghost use Rattle.std.specs.Prelude.{◌∷◌, []};
-ghost use Rattle.std.specs.Prelude.{if◌then◌else◌};
-ghost use Rattle.workload_calls.specs.Objects.{called, next_of, object, own_symbols, symbols_of};
+ghost use Rattle.std.specs.Prelude.{◌≡◌, ◌+◌, ◌≤◌, ◌<◌, ◌==◌, length, IfOk, Some, None};
+ghost use Rattle.workload_calls.specs.Objects.{called, object, own_symbols, symbols_of};
 ghost use Rattle.workload_calls.specs.Objects.{function};
 
 use crate::names::{function_name, start_name};

@@ -1,6 +1,6 @@
 //! The session of a workload, over a source and a sink in memory.
 
-ghost use Rattle.std.specs.Prelude.{◌≡◌, ◌≤◌, ◌<◌, ◌^◌, IfOk, List, [], length};
+ghost use Rattle.std.specs.Prelude.{◌≡◌, ◌≤◌, ◌<◌, IfOk, List, []};
 ghost use Rattle.std.specs.List.{AllByRecursion};
 ghost use Rattle.hub_store.specs.Parts.{store_of};
 ghost use Rattle.omos_wire.specs.Answer.{Answer};

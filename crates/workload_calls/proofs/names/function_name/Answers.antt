@@ -1,5 +1,5 @@
 use Rattle.std.proofs.Common.{sym, subst, ◌∙◌, arith}
-use Rattle.omos_base.specs.SymNames.{HasNameFault, IsSymName}
+use Rattle.omos_base.specs.SymNames.{IsSymName}
 use Rattle.workload_calls.proofs.Naming.{function_named, no_fault}
 use Rattle.workload_calls.proofs.names.function_name.Goals as goal
 
