@@ -184,6 +184,41 @@ PY
   cmp -s - alone
 check "a session's image is that of once"
 
+# An object whose 40,000 relocations are all of one call, merged twelve times: an image that is made
+# once and then handed out of the cache. To make it at each link would take minutes.
+python3 - "$here/tests" > requests <<'PY'
+import importlib.util, struct, sys
+from pathlib import Path
+spec = importlib.util.spec_from_file_location("objects", Path(sys.argv[1]) / "objects.py")
+objects = importlib.util.module_from_spec(spec)
+spec.loader.exec_module(objects)
+def frame(body): return struct.pack("<I", len(body)) + body
+def path(name): return struct.pack("<H", len(name)) + name
+code = b"\xe8\0\0\0\0\xc3" + b"\x90" * 10
+big = objects.plain(code, 16, [("_start", 0)], [(1, 4, 1, -4)] * 40000)
+assert len(big) == 960456
+text = b"(image (merge /o/big" + b" (hide _start /o/big)" * 11 + b"))"
+out = sys.stdout.buffer
+out.write(frame(b"\x01" + path(b"/o/big") + big) + frame(b"\x02" + path(b"/big") + text))
+out.write(frame(b"\x03" + path(b"/big")) * 16001 + frame(b"\x05") + frame(b"\x07"))
+PY
+timeout 10 "$omosd" stdio 4 40000 < requests > replies && python3 - <<'PY'
+import struct
+def frame(body): return struct.pack("<I", len(body)) + body
+replies = open("replies", "rb").read()
+published = frame(struct.pack("<BQ", 129, 1)) + frame(struct.pack("<BQ", 129, 2))
+assert replies.startswith(published)
+image = replies[26:26 + 4 + 17 + 8192]
+assert image[:21] == struct.pack("<IBQQ", 17 + 8192, 130, 2, 0x400000)
+assert image[21 + 4096:] == (b"\xe8\xfb\xff\xff\xff\xc3" + b"\x90" * 10) * 12 + bytes(4096 - 192)
+counts = frame(struct.pack("<B9Q", 133, 2, 2, 1, 16001, 16000, 1, 0, 1, 32006))
+assert replies == published + image * 16001 + counts + frame(b"\x87")
+PY
+check '16,000 hits on an image of 480,000 fields'
+workload='objects 65 images 130 bytes 1064960 hits 65 evicted 1 placements 65 version 130'
+[ "$("$omosd" workload 65)" = "$workload" ]; check 'a workload'
+"$omosd" workload 201 2> errors; [ $? -eq 2 ]; check 'usage of a workload'
+
 # ---- sockets
 
 "$omos" ./socket stats 2> errors; [ $? -eq 9 ]; check 'no server'

@@ -3,7 +3,8 @@
 /// The line beside a faulty command line.
 pub(crate) const USAGE: &str = "usage: omosd once < OBJECT > IMAGE
        omosd stdio CACHE STEPS < REQUESTS > REPLIES
-       omosd socket PATH WORKERS SESSIONS CACHE STEPS";
+       omosd socket PATH WORKERS SESSIONS CACHE STEPS
+       omosd workload N";
 
 /// The version of the program.
 pub(crate) const VERSION: &str = "omosd 0.2.0";
@@ -21,6 +22,10 @@ pub(crate) const HELP: &str = "omosd, a linker server
   omosd socket PATH WORKERS SESSIONS CACHE STEPS
       listens at the socket file PATH, serves SESSIONS connections by WORKERS threads
       on one store, and then prints the totals and ends; the client is omos
+
+  omosd workload N
+      makes N objects, serves a session that links them to 2 * N images, and prints
+      what its replies come to; N is 1 to 200
 
   omosd --help      prints this
   omosd --version   prints the version

@@ -1,5 +1,6 @@
 //! `omosd`, the linker server. It hands the words of the command line and the real outside to the top
-//! calls of the crates `omosd_calls` and `session_calls`, and ends with their status.
+//! calls of the crates `omosd_calls`, `session_calls` and `workload_calls`, and ends with their
+//! status.
 #![tactic(auto)]
 
 mod help;
@@ -13,6 +14,7 @@ use omosd_calls::omosd_once;
 use session_calls::omosd_stdio;
 use std::io;
 use std::process::ExitCode;
+use workload_calls::omosd_workload;
 
 /// Prints a text that was asked for on standard output.
 fn printed(rt: &impl Print, text: &str) -> u8 {
@@ -51,10 +53,19 @@ fn serve_stdio(rt: &HostRuntime, words: &[String]) -> u8 {
     omosd_stdio(rt.alloc(), words, &mut source, &mut sink)
 }
 
+/// Serves a workload, and prints its line on standard output. Its store is let go of.
+fn serve_workload(rt: &HostRuntime, words: &[String]) -> u8 {
+    let mut sink = Writing::new(io::writer(rt));
+    let (status, _) = omosd_workload(rt.alloc(), words, &mut sink);
+    status
+}
+
 /// Runs the command over the standard streams that the words begin with.
 fn serve_streams(rt: &HostRuntime, words: &[String]) -> u8 {
     if begins_with(words, "stdio") {
         serve_stdio(rt, words)
+    } else if begins_with(words, "workload") {
+        serve_workload(rt, words)
     } else {
         link_once(rt, words)
     }

@@ -1,0 +1,5 @@
+pub mod Lines
+pub mod Objects
+pub mod Replies
+pub mod Stream
+pub mod Workload
