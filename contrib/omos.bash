@@ -35,7 +35,7 @@ _omosd() {
   local current=${COMP_WORDS[COMP_CWORD]}
   COMPREPLY=()
   case $COMP_CWORD in
-    1) _omos_words "$current" once stdio socket --help --version ;;
+    1) _omos_words "$current" once stdio socket workload --help --version ;;
     2) if [[ ${COMP_WORDS[1]} == socket ]]; then _omos_files "$current"; fi ;;
   esac
 }
