@@ -171,7 +171,8 @@ def formats():
 def statuses(program):
     """Of docs/FORMATS.md's command lines: the statuses of a program."""
     part = read("docs/FORMATS.md").split(f"## The command line of `{program}`")[1].split("\n## ")[0]
-    rows = re.findall(r"^\| (\d[\d, ]*) \|", part.split("| Status |")[1], re.M)
+    table = part.split("| Status |")[1].split("\n\n")[0]
+    rows = re.findall(r"^\| (\d[\d, ]*) \|", table, re.M)
     return sorted(int(n) for row in rows for n in row.split(", "))
 
 
