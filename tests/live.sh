@@ -186,12 +186,9 @@ check "a session's image is that of once"
 
 # An object whose 40,000 relocations are all of one call, merged twelve times: an image that is made
 # once and then handed out of the cache. To make it at each link would take minutes.
-python3 - "$here/tests" > requests <<'PY'
-import importlib.util, struct, sys
-from pathlib import Path
-spec = importlib.util.spec_from_file_location("objects", Path(sys.argv[1]) / "objects.py")
-objects = importlib.util.module_from_spec(spec)
-spec.loader.exec_module(objects)
+PYTHONPATH="$here/tests" python3 - > requests <<'PY'
+import struct, sys
+import objects
 def frame(body): return struct.pack("<I", len(body)) + body
 def path(name): return struct.pack("<H", len(name)) + name
 code = b"\xe8\0\0\0\0\xc3" + b"\x90" * 10
@@ -202,7 +199,7 @@ out = sys.stdout.buffer
 out.write(frame(b"\x01" + path(b"/o/big") + big) + frame(b"\x02" + path(b"/big") + text))
 out.write(frame(b"\x03" + path(b"/big")) * 16001 + frame(b"\x05") + frame(b"\x07"))
 PY
-timeout 10 "$omosd" stdio 4 40000 < requests > replies && python3 - <<'PY'
+timeout 60 "$omosd" stdio 4 40000 < requests > replies && python3 - <<'PY'
 import struct
 def frame(body): return struct.pack("<I", len(body)) + body
 replies = open("replies", "rb").read()
@@ -215,6 +212,23 @@ counts = frame(struct.pack("<B9Q", 133, 2, 2, 1, 16001, 16000, 1, 0, 1, 32006))
 assert replies == published + image * 16001 + counts + frame(b"\x87")
 PY
 check '16,000 hits on an image of 480,000 fields'
+
+# The same requests to a server, whose session is one of many, are sent the same bytes.
+timeout 60 "$omosd" socket ./socket 1 1 4 40000 > totals 2> errors &
+server=$!
+for _ in $(seq 500); do [ "$(stat -c %a socket 2> /dev/null)" = 600 ] && break; sleep 0.02; done
+timeout 30 python3 - <<'PY' && wait $server
+import socket, threading
+link = socket.socket(socket.AF_UNIX)
+link.connect("./socket")
+requests, wanted = open("requests", "rb").read(), open("replies", "rb").read()
+threading.Thread(target=link.sendall, args=(requests,)).start()
+got = bytearray()
+while piece := link.recv(1 << 20):
+    got += piece
+assert got == wanted
+PY
+check 'the same in a session of a server'
 workload='objects 65 images 130 bytes 1064960 hits 65 evicted 1 placements 65 version 130'
 [ "$("$omosd" workload 65)" = "$workload" ]; check 'a workload'
 "$omosd" workload 201 2> errors; [ $? -eq 2 ]; check 'usage of a workload'
