@@ -22,7 +22,7 @@ BINDIR := $(PREFIX)/bin
 COMPLETIONS := $(PREFIX)/share/bash-completion/completions
 SCRIPTS := omos-explain omos-put-dir omos-run
 
-.PHONY: help try try-test build demo server live test trials contrib docs examples real links \
+.PHONY: help try try-test build demo server live test trials contrib docs house examples real links \
 	stores turns wires shares sweep bench memory clean install uninstall
 
 help:
@@ -36,6 +36,7 @@ help:
 	@echo "make examples  runs each of examples/ and compares what it prints"
 	@echo "make contrib  tries the scripts of contrib/, the completions and make install"
 	@echo "make docs    looks at links, names of files and the table of refusals in docs/ and man/"
+	@echo "make house   makes ARCHITECTURE's table of crates from crates.txt, and draws docs/house.svg"
 	@echo "make install, make uninstall  with PREFIX=, which is /usr/local"
 	@echo "make real    compares what is kept of compilers' objects with readelf, and runs with ld's"
 	@echo "make sweep   compares links of some 8,000 blueprints with plain descent through names,"
@@ -95,6 +96,9 @@ contrib: build
 
 docs:
 	@tests/docs.sh
+
+house:
+	@docs/house.py
 
 install:
 	@for file in $(OMOSD) $(OMOS); do \

@@ -93,6 +93,7 @@ PY
 
 run man/refusals.py check
 run bench/picture.py check
+run docs/house.py check
 
 if command -v mandoc > /dev/null; then
   for page in man/*.[157]; do
