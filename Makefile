@@ -22,8 +22,8 @@ BINDIR := $(PREFIX)/bin
 COMPLETIONS := $(PREFIX)/share/bash-completion/completions
 SCRIPTS := omos-explain omos-put-dir omos-run
 
-.PHONY: help try try-test build demo server live test trials contrib docs house examples real links \
-	stores turns wires shares sweep bench memory clean install uninstall
+.PHONY: help try try-test build demo server live test trials contrib docs house examples real \
+	links stores turns wires shares sweep bench memory clean install uninstall
 
 help:
 	@echo "make try     builds omosd and omos with no proof, in a minute or two, and runs the demo"
