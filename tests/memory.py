@@ -133,13 +133,13 @@ def check_whole(wanted):
 
 
 def check_client(folder, wanted, image):
-    """The line and the file, or neither: it is the client whose memory is refused."""
+    """The line and the file; or no line, and the file whole or not at all."""
     def check(status, data):
         made = folder / "made"
         written = made.read_bytes() if made.exists() else None
         made.unlink(missing_ok=True)
         whole = (status, data, written) == (0, wanted, image)
-        if not whole and (status, data, written) != (8, b"", None):
+        if not whole and ((status, data) != (8, b"") or written not in (None, image)):
             raise Wrong(f"status {status}, {data!r}, {'a' if written else 'no'} file")
     return check
 

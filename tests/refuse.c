@@ -7,6 +7,7 @@
 #include <fcntl.h>
 #include <stdio.h>
 #include <stdlib.h>
+#include <sys/syscall.h>
 #include <unistd.h>
 
 static unsigned long calls, refused;
@@ -52,7 +53,15 @@ __attribute__((destructor)) static void told(void)
     if (file >= 0) {
         int size = snprintf(text, sizeof text, "%lu\n", calls);
         if (write(file, text, size) != size)
-            _exit(99);
+            abort();
         close(file);
     }
+}
+
+/* A program may end without destructors. */
+void _exit(int status)
+{
+    told();
+    syscall(SYS_exit_group, status);
+    abort();
 }
