@@ -11,8 +11,6 @@ STORE_CASES := crates/store_cases/out/store_cases
 
 TURNS := crates/turn_bench/out/turn_bench
 
-WIRE_CASES := crates/wire_cases/out/wire_cases
-
 SHARED_CASES := crates/shared_cases/out/shared_cases
 
 # Where `make install` puts the programs, the scripts of contrib/, their pages and their data.
@@ -23,7 +21,7 @@ COMPLETIONS := $(PREFIX)/share/bash-completion/completions
 SCRIPTS := omos-explain omos-put-dir omos-run
 
 .PHONY: help try try-test build demo server live test trials contrib docs house examples real \
-	links stores turns wires shares sweep bench memory clean install uninstall
+	links stores turns shares sweep bench memory clean install uninstall
 
 help:
 	@echo "make try     builds omosd and omos with no proof, in a minute or two, and runs the demo"
@@ -154,12 +152,6 @@ turns:
 	@cd crates/turn_bench && rt run -- 2 1000 > out.log 2>&1 || { tail -n 20 out.log; exit 1; }
 	@rm -f crates/turn_bench/out.log
 
-wires:
-	@rm -f $(WIRE_CASES)
-	@cd crates/wire_cases && rt run > out.log 2>&1; test -x out/wire_cases || \
-	    { tail -n 20 out.log; exit 1; }
-	@rm -f crates/wire_cases/out.log
-
 shares:
 	@rm -f $(SHARED_CASES)
 	@cd crates/shared_cases && rt run > out.log 2>&1; test -x out/shared_cases || \
@@ -174,7 +166,7 @@ sweep: links
 	@tests/texts.py $(LINK_CASES)
 	@tests/versions.py $(LINK_CASES)
 
-bench: build links stores turns wires shares
+bench: build links stores turns shares
 	@bench/once.sh $(OMOSD)
 	@bench/objects.sh $(OMOSD)
 	@bench/operators.sh $(LINK_CASES)
@@ -184,7 +176,6 @@ bench: build links stores turns wires shares
 	@bench/store.sh $(STORE_CASES)
 	@bench/lock.sh $(TURNS)
 	@bench/session.sh $(OMOSD)
-	@bench/wire.sh $(WIRE_CASES)
 	@bench/shared.sh $(OMOSD) $(SHARED_CASES)
 	@bench/misses.py $(OMOSD)
 	@bench/hits.sh $(OMOSD) $(OMOS)
