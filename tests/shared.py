@@ -128,6 +128,14 @@ def alone(what, step, status, room, words, fails, totals, name, frames):
     return "\n".join(text), {name: frames}
 
 
+def own(what, status, room, sessions, fails):
+    """One worker and one session, which publishes and sees that."""
+    frames = [(put("/o/a", V1), published(1)), (STATS, counts(1, 1, 0, 0, 0, 0, 0, 0, 1))]
+    totals = "sessions 1 requests 2 version 1 placements 0 hits 0 stored 0 evicted 0"
+    words = f"socket s 1 {sessions} 4 64"
+    return alone(what, 4096, status, room, words, fails, totals, "own", frames)
+
+
 CASES = [
     held(
         "publish", "a publish between the asking and the answer", 4,
@@ -212,26 +220,10 @@ CASES = [
         )
         for step in (1, 7, 4096)
     ),
-    alone(
-        "a pass's own publish", 4096, 0, 300, "socket s 1 1 4 64", 0,
-        "sessions 1 requests 2 version 1 placements 0 hits 0 stored 0 evicted 0",
-        "own", [(put("/o/a", V1), published(1)), (STATS, counts(1, 1, 0, 0, 0, 0, 0, 0, 1))],
-    ),
-    alone(
-        "a door that fails at its second call", 4096, 9, 300, "socket s 1 2 4 64", 2,
-        "sessions 1 requests 2 version 1 placements 0 hits 0 stored 0 evicted 0",
-        "own", [(put("/o/a", V1), published(1)), (STATS, counts(1, 1, 0, 0, 0, 0, 0, 0, 1))],
-    ),
-    alone(
-        "a door that hands over fewer", 4096, 0, 300, "socket s 1 3 4 64", 0,
-        "sessions 1 requests 2 version 1 placements 0 hits 0 stored 0 evicted 0",
-        "own", [(put("/o/a", V1), published(1)), (STATS, counts(1, 1, 0, 0, 0, 0, 0, 0, 1))],
-    ),
-    alone(
-        "a sink that takes ten bytes of the totals", 4096, 4, 10, "socket s 1 1 4 64", 0,
-        "sessions 1 requests 2 version 1 placements 0 hits 0 stored 0 evicted 0",
-        "own", [(put("/o/a", V1), published(1)), (STATS, counts(1, 1, 0, 0, 0, 0, 0, 0, 1))],
-    ),
+    own("a pass's own publish", 0, 300, 1, 0),
+    own("a door that fails at its second call", 9, 300, 2, 2),
+    own("a door that hands over fewer", 0, 300, 3, 0),
+    own("a sink that takes ten bytes of the totals", 4, 10, 1, 0),
 ]
 
 HEAD = """# Written by tests/shared.py. A case: its name; the words; the status, how many bytes of
