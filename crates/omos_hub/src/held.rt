@@ -26,9 +26,11 @@ use turn_lock::Told;
 
 /// A store in whose record no step has the seat 0, so that all its steps are those of passes that
 /// take turns.
+///
+/// It stands on the heap, so that a turn moves a pointer in and out of the lock and not the store.
 #[derive(Drop)]
 pub struct Held {
-    store: Store,
+    store: Box<Store>,
 }
 
 impl Model for Held {
@@ -43,9 +45,9 @@ impl Model for Held {
 
     ghost coded = { Prim.hlevel (codes, expr.the_row.coded) };
 
-    ghost view = { λ h. h.store };
+    ghost view = { λ h. h.store.value };
 
-    ghost invariant = { λ h. steps_by seat_of 0 h.store.steps ≡ [] };
+    ghost invariant = { λ h. steps_by seat_of 0 h.store.value.steps ≡ [] };
 }
 
 impl Told for Held {
@@ -67,7 +69,7 @@ impl Held {
         ensures { IfOk result (λ h. h ≡ record { steps = []; limits = limits }) }
     {
         Ok(Held {
-            store: Store::open(alloc, limits)?,
+            store: Box::new(alloc, Store::open(alloc, limits)?)?,
         })
     }
 
@@ -84,7 +86,7 @@ impl Held {
         ensures none { steps_by seat_of 0 self.steps ≡ [] }
     {
         let Held { store } = self;
-        store
+        Box::into_inner(store)
     }
 
     pub(crate) fn missed(&mut self, seat: u32) -> Noted
