@@ -7,9 +7,12 @@ mod exports;
 mod fault;
 mod marks;
 mod names;
+mod operators;
 mod refusals;
 mod rules;
+mod steps;
 mod table;
 
 pub use fault::TableFault;
+pub use steps::Steps;
 pub use table::Table;
