@@ -11,6 +11,7 @@ ghost use Rattle.hub_store.specs.Links.{IsPlain, ending};
 ghost use Rattle.hub_store.specs.declared.reply.Outcome.TheVariants as outcome;
 
 use crate::image::{has_as_new, is_answer};
+use crate::notes::{note_asked, note_image, note_missed, ticket_of};
 use crate::reply::{AskReply, Outcome, PlaceReply};
 use crate::store::Store;
 use crate::ticket::Ticket;
@@ -37,44 +38,20 @@ impl Store {
         let number = tally.requests;
         let Some(position) = self.cache.find(path, &self.snap, self.history.published()) else {
             let Ok(snap) = self.snap.copy() else {
-                self.history.push(Step::Missed { seat, number });
+                note_missed(&mut self.history, seat, number);
                 return AskReply::NoMemory;
             };
-            self.history.push(Step::Asked {
-                seat,
-                number,
-                path: path.copy(),
-                version: tally.version,
-                hit: false,
-            });
-            return AskReply::Go(Ticket {
-                seat,
-                number,
-                path: path.copy(),
-                version: tally.version,
-                placed: self.book.len(),
-                snap,
-            });
+            note_asked(&mut self.history, seat, number, path, tally.version, false);
+            let placed = self.book.len();
+            return AskReply::Go(ticket_of(seat, number, path, tally.version, placed, snap));
         };
         let Ok(image) = self.cache.at(position).image.twin() else {
-            self.history.push(Step::Missed { seat, number });
+            note_missed(&mut self.history, seat, number);
             return AskReply::NoMemory;
         };
         is_answer(image.get());
-        self.history.push(Step::Asked {
-            seat,
-            number,
-            path: path.copy(),
-            version: tally.version,
-            hit: true,
-        });
-        self.history.push(Step::Answered {
-            seat,
-            number,
-            note: Note::Image {
-                base: image.get().base(),
-            },
-        });
+        note_asked(&mut self.history, seat, number, path, tally.version, true);
+        note_image(&mut self.history, seat, number, image.get().base());
         self.cache.touch(position, tally.version);
         AskReply::Hit(tally.version, image)
     }
@@ -137,13 +114,7 @@ impl Store {
         let number = ticket.number;
         let version = ticket.version;
         is_answer(image.get());
-        self.history.push(Step::Answered {
-            seat,
-            number,
-            note: Note::Image {
-                base: image.get().base(),
-            },
-        });
+        note_image(&mut self.history, seat, number, image.get().base());
         if has_as_new(&self.cache, &ticket.path, version) {
             return;
         }
