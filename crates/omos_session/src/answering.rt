@@ -133,7 +133,9 @@ fn checked_flush<D: Desk>(desk: &mut D, path: &[u8]) -> Given
     }
 }
 
-/// The answer to a frame, which the desk has on record.
+/// The answer to a frame, which the desk has on record. It stands apart, so that what a session
+/// alone and one of many pay for it can be measured.
+#[inline(never)]
 pub(crate) fn answer<D: Desk>(alloc: Global, desk: &mut D, request: Request<'_>) -> Given
     requires turns { CanTurn 4 (D.standing desk.old) }
     requires gate { CanCross 1 (D.standing desk.old).crossed }

@@ -5,6 +5,7 @@ ghost use Rattle.std.specs.List.{flat_map};
 ghost use Rattle.omos_outside.specs.Faults.{Rose};
 ghost use Rattle.omos_wire.specs.Answer.{IsSendable, answer_of, reply_frame, span_bytes, span_of};
 ghost use Rattle.omos_wire.specs.Answer.{longest_reply, Places};
+ghost use Rattle.omos_wire.specs.Answer as answer;
 ghost use Rattle.omos_outside.specs.Sent.{Wrote};
 ghost use Rattle.refusal_lines.specs.Codes.{coded_line, row_of};
 
@@ -87,6 +88,19 @@ fn write_image<K: Sink>(sink: &mut K, room: &mut Vec<u8>, head: &[u8], file: &[u
     write_both(sink, head, file)
 }
 
+/// Writes the frame of what is refused. It stands apart, so that no other reply clears the room on
+/// the stack that the longest refusal takes.
+#[inline(never)]
+fn write_refused<K: Sink>(sink: &mut K, refused: &Refused) -> Sent
+    ensures wrote { Wrote result (K.held sink.old) (K.held sink.new)
+        (reply_frame (answer.Refused refused.now)) }
+    ensures later { K.faults sink.old ≤ K.faults sink.new }
+    ensures counts { K.faults sink.old < 2 ^ 64 → K.faults sink.new < 2 ^ 64 }
+    ensures failed { result ≡ Sent.Failed → Rose (K.faults sink.old) (K.faults sink.new) }
+{
+    write_all(sink, refused_head(refused).as_slice())
+}
+
 /// Writes the frame of a reply. One of at most 16 KiB is one write, joined in the room, whatever
 /// that held, and so is a list of placements; a longer image is two, and its file goes to the sink
 /// from where it lies. Where there is no memory for joining, placements go 64 at a time.
@@ -99,7 +113,7 @@ pub fn write_reply<K: Sink>(reply: &Reply<'_>, room: &mut Vec<u8>, sink: &mut K)
     ensures failed { result ≡ Sent.Failed → Rose (K.faults sink.old) (K.faults sink.new) }
 {
     match reply {
-        Reply::Refused(refused) => write_all(sink, refused_head(refused).as_slice()),
+        Reply::Refused(refused) => write_refused(sink, refused),
         Reply::Image { bytes, .. } => write_image(sink, room, head_of(reply).as_slice(), bytes),
         Reply::Places(placements) => write_places(sink, room, placements),
         _ => write_all(sink, head_of(reply).as_slice()),

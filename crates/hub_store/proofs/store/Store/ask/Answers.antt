@@ -23,14 +23,14 @@ find-requires c =
 pub invariant_of-self : goal.invariant_of-self
 invariant_of-self c =
     let room = c.if-not-room.ensures.0 (search rules) in
-    rw (c.push.ensures.steps, c.push.ensures.capacity, c.tally-tally.ensures.value)
+    rw (c.note_missed.ensures.steps, c.note_missed.ensures.capacity, c.tally-tally.ensures.value)
     (after_missed _ _ _ _ _ _ c.self.invariant.0 room, c.self.invariant.1, c.self.invariant.2)
 
 pub invariant_of-self-in_default : goal.invariant_of-self-in_default
 invariant_of-self-in_default c =
     let room = c.if-not-room.ensures.0 (search rules) in
     let miss = sym c.in_default.ensures ∙ hit_told _ _ _ _ _ c.self.invariant.0.told in
-    rw (c.push-in_default.ensures.steps, c.push-in_default.ensures.capacity, c.tally-tally.ensures.value, c.copy-in_default.ensures)
+    rw (c.note_asked.ensures.steps, c.note_asked.ensures.capacity, c.tally-tally.ensures.value)
     (after_asked _ _ _ _ _ _ _ c.self.invariant.0 room miss, c.self.invariant.1, c.self.invariant.2)
 
 pub returns-in_default : goal.returns-in_default
@@ -38,15 +38,14 @@ returns-in_default c =
     let room = c.if-not-room.ensures.0 (search rules) in
     let told = c.self.invariant.0.told in
     let snap = ap (λ (t : Tree). t.entries) c.in-Ok.ensures ∙ told.space_is in
-    let placed = c.len.ensures.value ∙ ap length told.book_is in
+    let placed = c.len-placed.ensures.value ∙ ap length told.book_is in
     rw (
       ← c.self.view_is,
+      c.ticket_of.ensures,
       snap,
       placed,
-      c.push-in_default.ensures.steps,
-      c.push-in_default.ensures.capacity,
-      c.copy-in_default-2.ensures,
-      c.copy-in_default.ensures,
+      c.note_asked.ensures.steps,
+      c.note_asked.ensures.capacity,
       c.tally-tally.ensures.value,
     ) (
       room,
@@ -59,13 +58,13 @@ returns-in_default c =
 pub invariant_of-self-in_default-twin : goal.invariant_of-self-in_default-twin
 invariant_of-self-in_default-twin c =
     let room = c.if-not-room.ensures.0 (search rules) in
-    rw (c.push-in_default-twin.ensures.steps, c.push-in_default-twin.ensures.capacity, c.tally-tally.ensures.value)
+    rw (c.note_missed-in_default-twin.ensures.steps, c.note_missed-in_default-twin.ensures.capacity, c.tally-tally.ensures.value)
     (after_missed _ _ _ _ _ _ c.self.invariant.0 room, c.self.invariant.1, c.self.invariant.2)
 
 pub returns-in_default-twin : goal.returns-in_default-twin
 returns-in_default-twin c =
     let room = c.if-not-room.ensures.0 (search rules) in
-    rw (← c.self.view_is, c.push-in_default-twin.ensures.steps, c.push-in_default-twin.ensures.capacity, c.tally-tally.ensures.value)
+    rw (← c.self.view_is, c.note_missed-in_default-twin.ensures.steps, c.note_missed-in_default-twin.ensures.capacity, c.tally-tally.ensures.value)
     (room, refl)
 
 pub invariant_of-self-2 : goal.invariant_of-self-2
@@ -79,14 +78,13 @@ invariant_of-self-2 c =
     let left = touched.2 ∙ ap (λ (j : Item). as_found c.tally-tally.result.version j ∷ remove items c.in-Some.position) same in
     let base = c.base.ensures.base ∙ ap (λ (l : LinkedImage). l.base) (c.get-2.ensures ∙ c.in-Ok-twin.ensures) in
     rw (
-      c.push-3.ensures.steps,
-      c.push-3.ensures.capacity,
-      c.push-2.ensures.steps,
-      c.push-2.ensures.capacity,
+      c.note_image.ensures.steps,
+      c.note_image.ensures.capacity,
+      c.note_asked-2.ensures.steps,
+      c.note_asked-2.ensures.capacity,
       c.touch.ensures.capacity,
       left,
       base,
-      c.copy-2.ensures,
       c.tally-tally.ensures.value,
     )
     (after_hit _ _ _ _ _ c.args.seat _ _ _ c.self.invariant.0 room found, c.self.invariant.1, c.self.invariant.2)
@@ -104,13 +102,12 @@ returns c =
     let path = ap (λ (l : LinkedImage). l.path) c.in-Ok-twin.ensures ∙ sym (same_name-true c.args.path.now (path_of i) found.of_path) in
     rw (
       ← c.self.view_is,
-      c.push-3.ensures.steps,
-      c.push-3.ensures.capacity,
-      c.push-2.ensures.steps,
-      c.push-2.ensures.capacity,
+      c.note_image.ensures.steps,
+      c.note_image.ensures.capacity,
+      c.note_asked-2.ensures.steps,
+      c.note_asked-2.ensures.capacity,
       c.touch.ensures.capacity,
       base,
-      c.copy-2.ensures,
       c.tally-tally.ensures.value,
       append_assoc,
     )
