@@ -1,9 +1,10 @@
 #!/usr/bin/env python3
-"""Writes docs/REFUSALS.md and man/omos-refusals.7 from docs/refusals.txt, or checks them.
+"""Writes docs/REFUSALS.md, man/omos-refusals.7 and crates/refusal_words/src/table.rt from
+docs/refusals.txt, or checks them.
 
 usage: man/refusals.py write
-       man/refusals.py check     whether both are what would be written, and whether the table has
-                                 the names, codes and fields of crates/refusal_lines and
+       man/refusals.py check     whether the three are what would be written, and whether the table
+                                 has the names, codes and fields of crates/refusal_lines and
                                  docs/FORMATS.md, and the statuses of docs/FORMATS.md. Ends with
                                  'N passed, M failed'.
 """
@@ -19,6 +20,11 @@ sys.dont_write_bytecode = True
 loader = importlib.machinery.SourceFileLoader("explain", HOME + "/contrib/omos-explain")
 explain = importlib.util.module_from_spec(importlib.util.spec_from_loader("explain", loader))
 loader.exec_module(explain)
+
+
+def wrap(text, width):
+    """Lines of at most so many columns; a word stays whole at its hyphens."""
+    return textwrap.wrap(text, width, break_on_hyphens=False)
 
 
 def read(name):
@@ -64,7 +70,7 @@ def plain(text):
 
 def markdown(table):
     lines = ["# Refusals and statuses", ""]
-    lines += textwrap.wrap("What each printed line and each status means, when it comes, and what "
+    lines += wrap("What each printed line and each status means, when it comes, and what "
         "to do. Made by `man/refusals.py write` from [refusals.txt](refusals.txt); "
         "`omos-explain` says the same at the command line, and `man omos-refusals` too. "
         "[FORMATS.md](FORMATS.md) says each condition to the letter. A PATH and a NODE in a "
@@ -74,8 +80,8 @@ def markdown(table):
         lines += ["", f"## {name}"]
         for head, part in rows:
             lines += ["", f"### `{titled(head)}`", ""]
-            lines += textwrap.wrap(f"{plain(part['what'])} {plain(part['why'])}", 100)
-            lines += [""] + textwrap.wrap(f"*{plain(part['do'])}*"
+            lines += wrap(f"{plain(part['what'])} {plain(part['why'])}", 100)
+            lines += [""] + wrap(f"*{plain(part['do'])}*"
                 if part["do"] != "Nothing." else "Nothing is to be done.", 100)
     return "\n".join(lines) + "\n"
 
@@ -84,7 +90,7 @@ def roff(text):
     """A text as lines of a page: a sentence a line, and no line that is a request."""
     text = said(text).replace("\\", "\\e")
     sentences = re.split(r"(?<=[.?:]) (?=[A-Z])", text)
-    lines = [line for sentence in sentences for line in textwrap.wrap(sentence, 78)]
+    lines = [line for sentence in sentences for line in wrap(sentence, 78)]
     return ["\\&" + line if line.startswith((".", "'")) else line for line in lines]
 
 
@@ -134,6 +140,40 @@ def page(table):
     lines += [".Sh SEE ALSO", ".Xr omos 1 ,", ".Xr omos-explain 1 ,", ".Xr omosd 1 ,",
               ".Xr omos-blueprint 5 ,", ".Xr omos-protocol 7"]
     return "\n".join(lines) + "\n"
+
+
+SOURCE = """//! What each line means, and what to do. Made by man/refusals.py from docs/refusals.txt.
+
+/// The words that a line begins with, a sentence of what it means, and one of its cure. `{2}`
+/// stands for the line's word of that number, counted from 0.
+pub(crate) const TABLE: [(&str, &str, &str); %d] = [
+%s];
+"""
+
+
+def literal(text):
+    """A text as a literal of one or more lines, behind eight blanks."""
+    quoted = text.replace("\\", "\\\\").replace('"', '\\"')
+    return '        "' + " \\\n         ".join(wrap(quoted, 86)) + '",\n'
+
+
+def source(table):
+    """The table of the programs: of each refusal and line the words, what and do."""
+    rows = ""
+    lines = [(h, p) for h, p in table if h[0] in ("refusal", "line")]
+    for head, part in lines:
+        names = explain.field_names(head[3:]) if head[0] == "refusal" else []
+        numbers = {name: "{%d}" % (n + 2) for n, name in enumerate(names)}
+        words = "refused " + head[1] if head[0] == "refusal" else " ".join(head[1:])
+        what, do = (part[key].format(**numbers) for key in ("what", "do"))
+        rows += "    (\n" + literal(words) + literal(what) + literal(do) + "    ),\n"
+    return SOURCE % (len(lines), rows)
+
+
+def written(table):
+    """What is made of the table: a file's name and text."""
+    return {"docs/REFUSALS.md": markdown(table), "man/omos-refusals.7": page(table),
+            "crates/refusal_words/src/table.rt": source(table)}
 
 
 # ---- the checks
@@ -228,8 +268,8 @@ def check(table):
         hold(f"the parts of {head}", sorted(part), ["do", "what", "why"])
         names = set(re.findall(r"{(\w+)}", " ".join(part.values())))
         hold(f"the fields of {head}", names <= set(explain.field_names(head[3:])), True)
-    hold("docs/REFUSALS.md", read("docs/REFUSALS.md") == markdown(table), True)
-    hold("man/omos-refusals.7", read("man/omos-refusals.7") == page(table), True)
+    for name, text in written(table).items():
+        hold(name, read(name) == text, True)
     print(f"{counts[0]} passed, {counts[1]} failed")
     return counts[1] > 0
 
@@ -241,7 +281,7 @@ def main():
     if sys.argv[1:] != ["write"]:
         print(__doc__.strip(), file=sys.stderr)
         return 2
-    for name, text in (("docs/REFUSALS.md", markdown(table)), ("man/omos-refusals.7", page(table))):
+    for name, text in written(table).items():
         with open(os.path.join(HOME, name), "w", encoding="utf-8") as file:
             file.write(text)
     return 0

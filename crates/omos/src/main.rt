@@ -8,6 +8,7 @@ use crate::help::{HELP, USAGE, VERSION};
 use command_words::{is_alone, words_of};
 use omos_adapt::{RealFiles, Writing, connect};
 use omos_client::{client, client_words};
+use refusal_words::{Noting, tell};
 use std::io;
 use std::process::ExitCode;
 
@@ -36,7 +37,8 @@ fn message(status: u8) -> Option<&'static str> {
     }
 }
 
-/// Asks the server at the socket that the words begin with.
+/// Asks the server at the socket that the words begin with; a refusal, or that the server had no
+/// room, is told on standard error.
 fn ask(rt: &HostRuntime, words: &[String]) -> u8 {
     if !client_words(words) || words.is_empty() {
         return 2;
@@ -46,8 +48,12 @@ fn ask(rt: &HostRuntime, words: &[String]) -> u8 {
     };
     let alloc = rt.alloc();
     let mut files = RealFiles::new(rt, alloc);
-    let mut out = Writing::new(io::writer(rt));
-    client(alloc, words, &mut from, &mut to, &mut files, &mut out)
+    let mut out = Noting::new(Writing::new(io::writer(rt)));
+    let status = client(alloc, words, &mut from, &mut to, &mut files, &mut out);
+    if status == 1 || status == 12 {
+        tell(rt, "omos", out.noted());
+    }
+    status
 }
 
 fn run(rt: &HostRuntime) -> u8 {

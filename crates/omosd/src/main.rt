@@ -11,6 +11,7 @@ use crate::socket::serve_socket;
 use command_words::{is_alone, words_of};
 use omos_adapt::{Reading, Writing};
 use omosd_calls::omosd_once;
+use refusal_words::{Noting, tell};
 use session_calls::omosd_stdio;
 use std::io;
 use std::process::ExitCode;
@@ -27,7 +28,6 @@ fn printed(rt: &impl Print, text: &str) -> u8 {
 /// What standard error says beside a status.
 fn message(status: u8) -> Option<&'static str> {
     match status {
-        1 => Some("omosd: refused; the output is the line that says why"),
         2 => Some(USAGE),
         3 => Some("omosd: standard input can't be read"),
         4 => Some("omosd: standard output can't be written"),
@@ -39,11 +39,15 @@ fn message(status: u8) -> Option<&'static str> {
     }
 }
 
-/// Links one object, over the standard streams.
+/// Links one object, over the standard streams; a refusal is told on standard error.
 fn link_once(rt: &HostRuntime, words: &[String]) -> u8 {
     let mut source = Reading::new(rt.stdin());
-    let mut sink = Writing::new(io::writer(rt));
-    omosd_once(rt.alloc(), words, &mut source, &mut sink)
+    let mut sink = Noting::new(Writing::new(io::writer(rt)));
+    let status = omosd_once(rt.alloc(), words, &mut source, &mut sink);
+    if status == 1 {
+        tell(rt, "omosd", sink.noted());
+    }
+    status
 }
 
 /// Serves one session, over the standard streams.
