@@ -142,7 +142,8 @@ def page(table):
     return "\n".join(lines) + "\n"
 
 
-SOURCE = """//! What each line means, and what to do. Made by man/refusals.py from docs/refusals.txt.
+SOURCE = """\
+//! What each line means, and what to do. Made by man/refusals.py from docs/refusals.txt.
 
 /// The words that a line begins with, a sentence of what it means, and one of its cure. `{2}`
 /// stands for the line's word of that number, counted from 0.
