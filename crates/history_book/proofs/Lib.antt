@@ -1,5 +1,6 @@
 pub mod Grow
 pub mod Published
+pub mod Briefs
 pub mod Legality
 pub mod Numbers
 pub mod Rooms

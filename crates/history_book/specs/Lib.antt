@@ -1,5 +1,6 @@
 pub mod Steps
 pub mod Told
+pub mod Briefs
 pub mod Published
 pub mod Asked
 pub mod Room

@@ -1,0 +1,76 @@
+//! What a record keeps of a step.
+
+ghost use Rattle.std.specs.Prelude.{◌≡◌, length};
+
+use crate::step::Note;
+use omos_base::{PathName, Shared};
+use omos_model::Entry;
+
+/// A step, but for the bytes of its path, which stand in the record's list of bytes. A step takes
+/// 32 bytes so, and no room is kept for the bytes that its path hasn't.
+#[derive(Drop)]
+pub(crate) enum Brief {
+    Put {
+        seat: u32,
+        number: u64,
+        len: u8,
+        entry: Shared<Entry>,
+        size: u32,
+    },
+    Missed {
+        seat: u32,
+        number: u64,
+    },
+    LookedPlaces {
+        seat: u32,
+        number: u64,
+        len: u8,
+    },
+    LookedStats {
+        seat: u32,
+        number: u64,
+    },
+    Asked {
+        seat: u32,
+        number: u64,
+        len: u8,
+        version: u64,
+        hit: bool,
+    },
+    Placed {
+        seat: u32,
+        number: u64,
+        len: u8,
+        base: u64,
+        pages: u32,
+    },
+    Answered {
+        seat: u32,
+        number: u64,
+        note: Note,
+    },
+    Evicted {
+        seat: u32,
+        number: u64,
+        len: u8,
+    },
+    Stored {
+        seat: u32,
+        number: u64,
+        len: u8,
+        version: u64,
+    },
+    Flushed {
+        seat: u32,
+        number: u64,
+        len: u8,
+        held: bool,
+    },
+}
+
+/// How many bytes a path has.
+pub(crate) fn len_of(path: &PathName) -> u8
+    ensures { result ≡ length path.now }
+{
+    path.as_bytes().len() as u8
+}
