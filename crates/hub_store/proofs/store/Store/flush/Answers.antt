@@ -27,7 +27,7 @@ returns-then-not-held c =
     let un = c.if-not-held.ensures.held in
     let not_held = c.flush-held.ensures.held ∙ sym un in
     let told = un ∙ held_told _ _ _ _ _ c.self.invariant.0.told in
-    rw (← c.self.view_is, c.push_flushed.ensures.steps, c.push_flushed.ensures.capacity, c.flush-held.ensures.capacity, c.tally-number.ensures.value, c.copy.ensures, not_held)
+    rw (← c.self.view_is, c.push_flushed.ensures.steps, c.push_flushed.ensures.capacity, c.flush-held.ensures.capacity, c.tally-number.ensures.value, not_held)
     (room, told, refl)
 
 pub invariant_of-self-2 : goal.invariant_of-self-2
