@@ -1,7 +1,11 @@
 #!/usr/bin/env bash
-# Counts, by callgrind, what a hit takes in a session that has a store for itself (`omosd stdio`)
-# and in one of many on a hub (shared_cases, over links in memory), as whole runs of 600 hits less
-# those of 100. Every reply is compared with the one that tests/shared.py works out.
+# Counts, by callgrind, what the answer to a hit takes in a session that has a store for itself
+# (`omosd stdio`) and in one of many on a hub (shared_cases, over links in memory): inside the call
+# that both make for each frame, of 600 hits less those of 100. Every reply is compared with the one
+# that tests/shared.py works out.
+#
+# What lies outside of that call is the same code in both, over other sources and sinks: `omosd stdio`
+# has the system copy an image into its pipe, a link in memory copies it itself.
 #
 #   usage: bench/shared.sh OMOSD SHARED_CASES
 set -eu
@@ -28,20 +32,31 @@ open("cases.txt", "w").write(
 PY
 }
 
+answers() { # PROGRAM WORD..: the instructions inside the answers
+    collected "--toggle-collect=omos_session::answering::answer" \
+        "--toggle-collect=omos_session::answering::answer::*" "$@"
+}
+
 alone() {
     stream "$1"
-    "$omosd" stdio 4 2000 < hits.in | cmp - hits.out >&2
-    collected "$omosd" stdio 4 2000 < hits.in
+    answers "$omosd" stdio 4 2000 < hits.in
+    cmp output hits.out >&2
 }
 
 shared() {
     stream "$1"
-    collected "$cases"
+    answers "$cases"
     [ "$(grep -c '^ok' output)" = 3 ] && [ "$(wc -l < output)" = 3 ] || { cat output >&2; exit 1; }
 }
 
-one=$((($(alone 600) - $(alone 100)) / 500))
-many=$((($(shared 600) - $(shared 100)) / 500))
-echo "a hit: $one instructions in a session alone, reads and writes of the streams included"
-echo "a hit: $many in a shared session over memory; the copy of its image into the sink and the"
-echo "comparison of its reply, which are in it, are the harness's"
+each() { # KIND: of a hit, from two runs
+    local few many
+    few=$("$1" 100)
+    many=$("$1" 600)
+    [ "$few" -gt 0 ] || { echo "bench: nothing was counted inside the answers" >&2; exit 1; }
+    echo "$(((many - few) / 500))"
+}
+
+one=$(each alone)
+many=$(each shared)
+echo "the answer to a hit: $one instructions in a session alone, $many in a shared session"

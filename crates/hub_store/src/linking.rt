@@ -11,11 +11,10 @@ ghost use Rattle.hub_store.specs.Links.{IsPlain, ending};
 ghost use Rattle.hub_store.specs.declared.reply.Outcome.TheVariants as outcome;
 
 use crate::image::{has_as_new, is_answer};
-use crate::notes::{note_asked, note_image, note_missed, ticket_of};
 use crate::reply::{AskReply, Outcome, PlaceReply};
 use crate::store::Store;
-use crate::ticket::Ticket;
-use history_book::{Note, Step};
+use crate::ticket::{Ticket, ticket_of};
+use history_book::Note;
 use image_cache::Item;
 use link_model::{Linked, Planned};
 use omos_base::{PathName, Shared};
@@ -38,20 +37,25 @@ impl Store {
         let number = tally.requests;
         let Some(position) = self.cache.find(path, &self.snap, self.history.published()) else {
             let Ok(snap) = self.snap.copy() else {
-                note_missed(&mut self.history, seat, number);
+                self.history.push_missed(seat, number);
                 return AskReply::NoMemory;
             };
-            note_asked(&mut self.history, seat, number, path, tally.version, false);
+            self.history
+                .push_asked(seat, number, path, tally.version, false);
             let placed = self.book.len();
             return AskReply::Go(ticket_of(seat, number, path, tally.version, placed, snap));
         };
         let Ok(image) = self.cache.at(position).image.twin() else {
-            note_missed(&mut self.history, seat, number);
+            self.history.push_missed(seat, number);
             return AskReply::NoMemory;
         };
         is_answer(image.get());
-        note_asked(&mut self.history, seat, number, path, tally.version, true);
-        note_image(&mut self.history, seat, number, image.get().base());
+        self.history
+            .push_asked(seat, number, path, tally.version, true);
+        let note = Note::Image {
+            base: image.get().base(),
+        };
+        self.history.push_answered(seat, number, note);
         self.cache.touch(position, tally.version);
         AskReply::Hit(tally.version, image)
     }
@@ -77,13 +81,8 @@ impl Store {
                     base,
                     pages,
                 });
-                self.history.push(Step::Placed {
-                    seat: ticket.seat,
-                    number: ticket.number,
-                    path: ticket.path.copy(),
-                    base,
-                    pages,
-                });
+                self.history
+                    .push_placed(ticket.seat, ticket.number, &ticket.path, base, pages);
                 PlaceReply::At(base)
             }
         }
@@ -97,11 +96,7 @@ impl Store {
         ensures { Appended self.old self.new
             (ending self.old.limits.cache self.old.steps ticket.now note) }
     {
-        self.history.push(Step::Answered {
-            seat: ticket.seat,
-            number: ticket.number,
-            note,
-        });
+        self.history.push_answered(ticket.seat, ticket.number, note);
     }
 
     /// Ends a link request with its image, which is stored where that is due.
@@ -114,7 +109,10 @@ impl Store {
         let number = ticket.number;
         let version = ticket.version;
         is_answer(image.get());
-        note_image(&mut self.history, seat, number, image.get().base());
+        let note = Note::Image {
+            base: image.get().base(),
+        };
+        self.history.push_answered(seat, number, note);
         if has_as_new(&self.cache, &ticket.path, version) {
             return;
         }
@@ -125,21 +123,13 @@ impl Store {
             image,
         };
         if let Some(path) = self.cache.store(item) {
-            self.history.push(Step::Evicted { seat, number, path });
-            self.history.push(Step::Stored {
-                seat,
-                number,
-                path: ticket.path.copy(),
-                version,
-            });
+            self.history.push_evicted(seat, number, &path);
+            self.history
+                .push_stored(seat, number, &ticket.path, version);
             return;
         }
-        self.history.push(Step::Stored {
-            seat,
-            number,
-            path: ticket.path.copy(),
-            version,
-        });
+        self.history
+            .push_stored(seat, number, &ticket.path, version);
     }
 
     /// Ends a link request. Its image is stored unless one as new is held; in a full cache the one

@@ -11,7 +11,7 @@ ghost use Rattle.hub_store.specs.Requests.{StatsGives, IsNext, next_put, counts_
 use crate::counts::{Counts, Totals};
 use crate::reply::{FlushReply, Noted, PlacesReply, PutReply, StatsReply};
 use crate::ticket::ReadyPut;
-use history_book::{Look, Record, Step};
+use history_book::Record;
 use image_cache::Cache;
 use name_tree::Snap;
 use omos_base::{Limits, NoMemory, PathName, Shared};
@@ -156,13 +156,8 @@ impl Store {
         if !self.history.room() {
             return PutReply::Full;
         }
-        self.history.push(Step::Put {
-            seat,
-            number: tally.requests,
-            path,
-            entry,
-            size,
-        });
+        self.history
+            .push_put(seat, tally.requests, &path, entry, size);
         self.snap = snap;
         PutReply::Published(tally.version + 1)
     }
@@ -175,7 +170,7 @@ impl Store {
             return Noted::Full;
         }
         let number = self.history.tally().requests;
-        self.history.push(Step::Missed { seat, number });
+        self.history.push_missed(seat, number);
         Noted::Done
     }
 
@@ -188,20 +183,11 @@ impl Store {
         }
         let number = self.history.tally().requests;
         let held = self.cache.flush(path);
-        self.history.push(Step::Flushed {
-            seat,
-            number,
-            path: path.copy(),
-            held,
-        });
+        self.history.push_flushed(seat, number, path, held);
         if !held {
             return FlushReply::Flushed(false);
         }
-        self.history.push(Step::Evicted {
-            seat,
-            number,
-            path: path.copy(),
-        });
+        self.history.push_evicted(seat, number, path);
         FlushReply::Flushed(true)
     }
 
@@ -214,14 +200,10 @@ impl Store {
         }
         let number = self.history.tally().requests;
         let Ok(found) = self.book.of_path(self.alloc, path) else {
-            self.history.push(Step::Missed { seat, number });
+            self.history.push_missed(seat, number);
             return PlacesReply::NoMemory;
         };
-        self.history.push(Step::Looked {
-            seat,
-            number,
-            look: Look::Places(path.copy()),
-        });
+        self.history.push_places(seat, number, path);
         PlacesReply::Places(found)
     }
 
@@ -234,11 +216,7 @@ impl Store {
         }
         let counts = self.counts();
         let number = self.history.tally().requests;
-        self.history.push(Step::Looked {
-            seat,
-            number,
-            look: Look::Stats,
-        });
+        self.history.push_stats(seat, number);
         StatsReply::Counts(counts)
     }
 }

@@ -109,3 +109,32 @@ impl Ticket {
         &self.snap
     }
 }
+
+/// The ticket of a link request on this version, which is the snapshot's.
+pub(crate) fn ticket_of(
+    seat: u32,
+    number: u64,
+    path: &PathName,
+    version: u64,
+    placed: u32,
+    snap: Snap,
+) -> Ticket
+    ensures { result ≡ record {
+      seat = seat;
+      number = number;
+      path = path.now;
+      version = version;
+      placed = placed;
+      space = snap.entries;
+    } }
+{
+    let path = path.copy();
+    Ticket {
+        seat,
+        number,
+        path,
+        version,
+        placed,
+        snap,
+    }
+}

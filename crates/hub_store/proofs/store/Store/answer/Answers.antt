@@ -10,8 +10,8 @@ use Rattle.hub_store.proofs.Links.{after_evicting, evicting_ending, facts_apart}
 use Rattle.hub_store.proofs.Storing.{as_new_told, storing_is, storing_none, step_for}
 use Rattle.hub_store.proofs.store.Store.answer.Goals as goal
 
-pub note_image-requires : goal.note_image-requires
-note_image-requires c =
+pub push_answered-requires : goal.push_answered-requires
+push_answered-requires c =
     let ticket = rw (← c.ticket.view_is, ← c.self.view_is) at c.requires.ticket in
     omega (arith, ticket_room _ _ _ _ _ _ c.self.invariant.0 ticket)
 
@@ -23,7 +23,7 @@ invariant_of-self c =
     let new = as_new_told _ _ _ (facts_apart _ _ _ _ c.self.invariant.0.told) ∙ sym c.if-has_as_new.ensures in
     let is = subst (λ (l : LinkedImage). answer l.footprint l.path l.base ≡ Ok l.bytes) c.get.ensures c.is_answer.ensures in
     let may = image_may_end _ _ c.args.image image.0 ticket image.1 is in
-    rw (c.note_image.ensures.steps, c.note_image.ensures.capacity, base)
+    rw (c.push_answered.ensures.steps, c.push_answered.ensures.capacity, base)
     (after_unstored _ _ _ _ _ _ _ c.self.invariant.0 ticket may (storing_none c.self.inside.cache.capacity c.self.inside.cache.items c.ticket.inside.seat c.ticket.inside.number c.ticket.inside.path c.ticket.inside.version new), c.self.invariant.1, c.self.invariant.2)
 
 pub returns-then-has_as_new : goal.returns-then-has_as_new
@@ -35,29 +35,29 @@ returns-then-has_as_new c =
     rw (
       ← c.self.view_is,
       ← c.ticket.view_is,
-      c.note_image.ensures.steps,
-      c.note_image.ensures.capacity,
+      c.push_answered.ensures.steps,
+      c.push_answered.ensures.capacity,
       base,
       unstored_ending _ _ _ _ _ _ c.args.image.base c.self.invariant.0 ticket (storing_none c.self.inside.cache.capacity c.self.inside.cache.items c.ticket.inside.seat c.ticket.inside.number c.ticket.inside.path c.ticket.inside.version new),
     ) refl
 
-pub push-requires : goal.push-requires
-push-requires c =
+pub push_evicted-requires : goal.push_evicted-requires
+push_evicted-requires c =
     let ticket = rw (← c.ticket.view_is, ← c.self.view_is) at c.requires.ticket in
-    omega (arith, ticket_room _ _ _ _ _ _ c.self.invariant.0 ticket, ap length c.note_image.ensures.steps, length_push c.self.inside.history.steps, c.note_image.ensures.capacity)
+    omega (arith, ticket_room _ _ _ _ _ _ c.self.invariant.0 ticket, ap length c.push_answered.ensures.steps, length_push c.self.inside.history.steps, c.push_answered.ensures.capacity)
 
-pub push-requires-in-Some : goal.push-requires-in-Some
-push-requires-in-Some c =
+pub push_stored-requires : goal.push_stored-requires
+push_stored-requires c =
     let ticket = rw (← c.ticket.view_is, ← c.self.view_is) at c.requires.ticket in
     omega (
       arith,
       ticket_room _ _ _ _ _ _ c.self.invariant.0 ticket,
-      ap length c.note_image.ensures.steps,
+      ap length c.push_answered.ensures.steps,
       length_push c.self.inside.history.steps,
-      c.note_image.ensures.capacity,
-      ap length c.push.ensures.steps,
-      length_push c.note_image.new.history.steps,
-      c.push.ensures.capacity,
+      c.push_answered.ensures.capacity,
+      ap length c.push_evicted.ensures.steps,
+      length_push c.push_answered.new.self.steps,
+      c.push_evicted.ensures.capacity,
     )
 
 pub invariant_of-self-in-Some : goal.invariant_of-self-in-Some
@@ -72,16 +72,15 @@ invariant_of-self-in-Some c =
     let due = storing_is c.self.inside.cache.capacity c.self.inside.cache.items c.ticket.inside.seat c.ticket.inside.number c.ticket.inside.path c.ticket.inside.version c.in-Some.ensures.some new
     ∙ ap (λ o. Some (step_for c.ticket.inside.seat c.ticket.inside.number c.ticket.inside.path c.ticket.inside.version o)) gone in
     rw (
-      c.push-in-Some.ensures.steps,
-      c.push-in-Some.ensures.capacity,
-      c.push.ensures.steps,
-      c.push.ensures.capacity,
-      c.note_image.ensures.steps,
-      c.note_image.ensures.capacity,
+      c.push_stored.ensures.steps,
+      c.push_stored.ensures.capacity,
+      c.push_evicted.ensures.steps,
+      c.push_evicted.ensures.capacity,
+      c.push_answered.ensures.steps,
+      c.push_answered.ensures.capacity,
       c.in-Some.ensures.capacity,
       c.in-Some.ensures.items,
       base,
-      c.copy.ensures,
     )
     (after_evicting _ _ _ _ _ _ c.args.image image.0 c.in-Some.path c.self.invariant.0 ticket image.1 may due, c.self.invariant.1, c.self.invariant.2)
 
@@ -97,24 +96,23 @@ returns-in-Some c =
     rw (
       ← c.self.view_is,
       ← c.ticket.view_is,
-      c.push-in-Some.ensures.steps,
-      c.push-in-Some.ensures.capacity,
-      c.push.ensures.steps,
-      c.push.ensures.capacity,
-      c.note_image.ensures.steps,
-      c.note_image.ensures.capacity,
+      c.push_stored.ensures.steps,
+      c.push_stored.ensures.capacity,
+      c.push_evicted.ensures.steps,
+      c.push_evicted.ensures.capacity,
+      c.push_answered.ensures.steps,
+      c.push_answered.ensures.capacity,
       c.in-Some.ensures.capacity,
       base,
-      c.copy.ensures,
       evicting_ending _ _ _ _ _ _ c.args.image.base c.in-Some.path c.self.invariant.0 ticket due,
       append_assoc,
       append_assoc,
     ) refl
 
-pub push-requires-2 : goal.push-requires-2
-push-requires-2 c =
+pub push_stored-requires-2 : goal.push_stored-requires-2
+push_stored-requires-2 c =
     let ticket = rw (← c.ticket.view_is, ← c.self.view_is) at c.requires.ticket in
-    omega (arith, ticket_room _ _ _ _ _ _ c.self.invariant.0 ticket, ap length c.note_image.ensures.steps, length_push c.self.inside.history.steps, c.note_image.ensures.capacity)
+    omega (arith, ticket_room _ _ _ _ _ _ c.self.invariant.0 ticket, ap length c.push_answered.ensures.steps, length_push c.self.inside.history.steps, c.push_answered.ensures.capacity)
 
 pub invariant_of-self-2 : goal.invariant_of-self-2
 invariant_of-self-2 c =
@@ -128,14 +126,13 @@ invariant_of-self-2 c =
     let due = storing_is c.self.inside.cache.capacity c.self.inside.cache.items c.ticket.inside.seat c.ticket.inside.number c.ticket.inside.path c.ticket.inside.version c.in_default.ensures.some new
     ∙ ap (λ o. Some (step_for c.ticket.inside.seat c.ticket.inside.number c.ticket.inside.path c.ticket.inside.version o)) gone in
     rw (
-      c.push-2.ensures.steps,
-      c.push-2.ensures.capacity,
-      c.note_image.ensures.steps,
-      c.note_image.ensures.capacity,
+      c.push_stored-2.ensures.steps,
+      c.push_stored-2.ensures.capacity,
+      c.push_answered.ensures.steps,
+      c.push_answered.ensures.capacity,
       c.in_default.ensures.capacity,
       c.in_default.ensures.items,
       base,
-      c.copy-2.ensures,
     )
     (after_stored _ _ _ _ _ _ c.args.image image.0 c.self.invariant.0 ticket image.1 may due, c.self.invariant.1, c.self.invariant.2)
 
@@ -151,13 +148,12 @@ returns c =
     rw (
       ← c.self.view_is,
       ← c.ticket.view_is,
-      c.push-2.ensures.steps,
-      c.push-2.ensures.capacity,
-      c.note_image.ensures.steps,
-      c.note_image.ensures.capacity,
+      c.push_stored-2.ensures.steps,
+      c.push_stored-2.ensures.capacity,
+      c.push_answered.ensures.steps,
+      c.push_answered.ensures.capacity,
       c.in_default.ensures.capacity,
       base,
-      c.copy-2.ensures,
       stored_ending _ _ _ _ _ _ c.args.image.base c.self.invariant.0 ticket due,
       append_assoc,
     ) refl

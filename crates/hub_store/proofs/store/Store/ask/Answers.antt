@@ -23,14 +23,14 @@ find-requires c =
 pub invariant_of-self : goal.invariant_of-self
 invariant_of-self c =
     let room = c.if-not-room.ensures.0 (search rules) in
-    rw (c.note_missed.ensures.steps, c.note_missed.ensures.capacity, c.tally-tally.ensures.value)
+    rw (c.push_missed.ensures.steps, c.push_missed.ensures.capacity, c.tally-tally.ensures.value)
     (after_missed _ _ _ _ _ _ c.self.invariant.0 room, c.self.invariant.1, c.self.invariant.2)
 
 pub invariant_of-self-in_default : goal.invariant_of-self-in_default
 invariant_of-self-in_default c =
     let room = c.if-not-room.ensures.0 (search rules) in
     let miss = sym c.in_default.ensures ∙ hit_told _ _ _ _ _ c.self.invariant.0.told in
-    rw (c.note_asked.ensures.steps, c.note_asked.ensures.capacity, c.tally-tally.ensures.value)
+    rw (c.push_asked.ensures.steps, c.push_asked.ensures.capacity, c.tally-tally.ensures.value)
     (after_asked _ _ _ _ _ _ _ c.self.invariant.0 room miss, c.self.invariant.1, c.self.invariant.2)
 
 pub returns-in_default : goal.returns-in_default
@@ -44,8 +44,8 @@ returns-in_default c =
       c.ticket_of.ensures,
       snap,
       placed,
-      c.note_asked.ensures.steps,
-      c.note_asked.ensures.capacity,
+      c.push_asked.ensures.steps,
+      c.push_asked.ensures.capacity,
       c.tally-tally.ensures.value,
     ) (
       room,
@@ -58,13 +58,13 @@ returns-in_default c =
 pub invariant_of-self-in_default-twin : goal.invariant_of-self-in_default-twin
 invariant_of-self-in_default-twin c =
     let room = c.if-not-room.ensures.0 (search rules) in
-    rw (c.note_missed-in_default-twin.ensures.steps, c.note_missed-in_default-twin.ensures.capacity, c.tally-tally.ensures.value)
+    rw (c.push_missed-in_default-twin.ensures.steps, c.push_missed-in_default-twin.ensures.capacity, c.tally-tally.ensures.value)
     (after_missed _ _ _ _ _ _ c.self.invariant.0 room, c.self.invariant.1, c.self.invariant.2)
 
 pub returns-in_default-twin : goal.returns-in_default-twin
 returns-in_default-twin c =
     let room = c.if-not-room.ensures.0 (search rules) in
-    rw (← c.self.view_is, c.note_missed-in_default-twin.ensures.steps, c.note_missed-in_default-twin.ensures.capacity, c.tally-tally.ensures.value)
+    rw (← c.self.view_is, c.push_missed-in_default-twin.ensures.steps, c.push_missed-in_default-twin.ensures.capacity, c.tally-tally.ensures.value)
     (room, refl)
 
 pub invariant_of-self-2 : goal.invariant_of-self-2
@@ -78,10 +78,10 @@ invariant_of-self-2 c =
     let left = touched.2 ∙ ap (λ (j : Item). as_found c.tally-tally.result.version j ∷ remove items c.in-Some.position) same in
     let base = c.base.ensures.base ∙ ap (λ (l : LinkedImage). l.base) (c.get-2.ensures ∙ c.in-Ok-twin.ensures) in
     rw (
-      c.note_image.ensures.steps,
-      c.note_image.ensures.capacity,
-      c.note_asked-2.ensures.steps,
-      c.note_asked-2.ensures.capacity,
+      c.push_answered.ensures.steps,
+      c.push_answered.ensures.capacity,
+      c.push_asked-2.ensures.steps,
+      c.push_asked-2.ensures.capacity,
       c.touch.ensures.capacity,
       left,
       base,
@@ -102,10 +102,10 @@ returns c =
     let path = ap (λ (l : LinkedImage). l.path) c.in-Ok-twin.ensures ∙ sym (same_name-true c.args.path.now (path_of i) found.of_path) in
     rw (
       ← c.self.view_is,
-      c.note_image.ensures.steps,
-      c.note_image.ensures.capacity,
-      c.note_asked-2.ensures.steps,
-      c.note_asked-2.ensures.capacity,
+      c.push_answered.ensures.steps,
+      c.push_answered.ensures.capacity,
+      c.push_asked-2.ensures.steps,
+      c.push_asked-2.ensures.capacity,
       c.touch.ensures.capacity,
       base,
       c.tally-tally.ensures.value,

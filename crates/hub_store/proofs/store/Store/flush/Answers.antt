@@ -11,11 +11,10 @@ invariant_of-self c =
     let not_held = c.flush-held.ensures.held ∙ sym un in
     let told = un ∙ held_told _ _ _ _ _ c.self.invariant.0.told in
     rw (
-      c.push.ensures.steps,
-      c.push.ensures.capacity,
+      c.push_flushed.ensures.steps,
+      c.push_flushed.ensures.capacity,
       c.flush-held.ensures.capacity,
       c.tally-number.ensures.value,
-      c.copy.ensures,
       not_held,
       c.flush-held.ensures.items,
       unheld c.args.path.now c.self.inside.cache.items (sym un),
@@ -28,7 +27,7 @@ returns-then-not-held c =
     let un = c.if-not-held.ensures.held in
     let not_held = c.flush-held.ensures.held ∙ sym un in
     let told = un ∙ held_told _ _ _ _ _ c.self.invariant.0.told in
-    rw (← c.self.view_is, c.push.ensures.steps, c.push.ensures.capacity, c.flush-held.ensures.capacity, c.tally-number.ensures.value, c.copy.ensures, not_held)
+    rw (← c.self.view_is, c.push_flushed.ensures.steps, c.push_flushed.ensures.capacity, c.flush-held.ensures.capacity, c.tally-number.ensures.value, not_held)
     (room, told, refl)
 
 pub invariant_of-self-2 : goal.invariant_of-self-2
@@ -38,14 +37,12 @@ invariant_of-self-2 c =
     let held = c.flush-held.ensures.held ∙ sym is in
     let told = is ∙ held_told _ _ _ _ _ c.self.invariant.0.told in
     rw (
-      c.push-2.ensures.steps,
-      c.push-2.ensures.capacity,
-      c.push.ensures.steps,
-      c.push.ensures.capacity,
+      c.push_evicted.ensures.steps,
+      c.push_evicted.ensures.capacity,
+      c.push_flushed.ensures.steps,
+      c.push_flushed.ensures.capacity,
       c.flush-held.ensures.capacity,
       c.tally-number.ensures.value,
-      c.copy.ensures,
-      c.copy-2.ensures,
       held,
       c.flush-held.ensures.items,
     )
@@ -59,14 +56,12 @@ returns c =
     let told = is ∙ held_told _ _ _ _ _ c.self.invariant.0.told in
     rw (
       ← c.self.view_is,
-      c.push-2.ensures.steps,
-      c.push-2.ensures.capacity,
-      c.push.ensures.steps,
-      c.push.ensures.capacity,
+      c.push_evicted.ensures.steps,
+      c.push_evicted.ensures.capacity,
+      c.push_flushed.ensures.steps,
+      c.push_flushed.ensures.capacity,
       c.flush-held.ensures.capacity,
       c.tally-number.ensures.value,
-      c.copy.ensures,
-      c.copy-2.ensures,
       held,
       append_assoc,
     )

@@ -5,5 +5,5 @@ use Rattle.hub_store.proofs.store.Store.missed.Goals as goal
 pub invariant_of-self : goal.invariant_of-self
 invariant_of-self c =
     let room = c.if-not-room.ensures.0 (search rules) in
-    rw (c.push.ensures.steps, c.push.ensures.capacity, c.tally-number.ensures.value)
+    rw (c.push_missed.ensures.steps, c.push_missed.ensures.capacity, c.tally-number.ensures.value)
     (after_missed _ _ _ _ _ _ c.self.invariant.0 room, c.self.invariant.1, c.self.invariant.2)

@@ -20,8 +20,8 @@ add-requires-clause-lawful c =
     (rw (c.lo.ensures.lo, c.hi.ensures.hi) c.lo.ensures.range)
     (rw c.pages-pages.ensures.pages c.pages-pages.ensures.some) (rw c.pages-pages.ensures.pages c.pages-pages.ensures.few) refl refl
 
-pub push-requires : goal.push-requires
-push-requires c =
+pub push_placed-requires : goal.push_placed-requires
+push_placed-requires c =
     let ticket = rw (← c.ticket.view_is, ← c.self.view_is) at c.requires.ticket in
     omega (arith, ticket_room _ _ _ _ _ _ c.self.invariant.0 ticket)
 
@@ -31,7 +31,7 @@ invariant_of-self c =
     let unplaced = rw (← c.ticket.view_is, ← c.self.view_is) at c.requires.unplaced in
     let planned = rw (← c.ticket.view_is) at c.requires.planned in
     let new = sym (rw (c.pages-pages.ensures.pages, c.lo.ensures.lo, c.hi.ensures.hi) at c.in-New.ensures.place) in
-    rw (c.push.ensures.steps, c.push.ensures.capacity, c.add.ensures.placements, c.add.ensures.capacity, c.copy.ensures, c.copy-in-New.ensures, c.pages-pages.ensures.pages)
+    rw (c.push_placed.ensures.steps, c.push_placed.ensures.capacity, c.add.ensures.placements, c.add.ensures.capacity, c.copy.ensures, c.pages-pages.ensures.pages)
     (after_placed _ _ _ _ _ _ _ _ c.self.invariant.0 ticket unplaced planned new, c.self.invariant.1, c.self.invariant.2)
 
 pub returns-in-New : goal.returns-in-New
@@ -40,5 +40,5 @@ returns-in-New c =
     let new = sym (rw (c.pages-pages.ensures.pages, c.lo.ensures.lo, c.hi.ensures.hi) at c.in-New.ensures.place) in
     let at = ap (λ book. place_for book c.ticket.inside.path c.args.planned.now.layout.pages c.args.planned.now.evaluated.lo c.args.planned.now.evaluated.hi) (sym c.self.invariant.0.told.book_is) ∙ new in
     let stands = rw c.pages-pages.ensures.pages at c.in-New.ensures.stands in
-    rw (← c.self.view_is, ← c.ticket.view_is, c.push.ensures.steps, c.push.ensures.capacity, c.copy-in-New.ensures, c.pages-pages.ensures.pages)
+    rw (← c.self.view_is, ← c.ticket.view_is, c.push_placed.ensures.steps, c.push_placed.ensures.capacity, c.pages-pages.ensures.pages)
     (place_given _ _ _ _ (place.New c.in-New.base) _ at refl refl ticket stands)

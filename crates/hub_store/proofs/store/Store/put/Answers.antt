@@ -16,12 +16,12 @@ invariant_of-self c =
     let room = c.if-not-room.ensures.0 (search rules) in
     let few = rw (c.tally-tally.ensures.value, c.from.ensures) at c.if-tally-from-gt-MAX_KEPT.false in
     let space = rw (← c.ready.view_is, ← c.self.view_is) at c.requires in
-    rw (c.push.ensures.steps, c.push.ensures.capacity, c.tally-tally.ensures.value, space)
+    rw (c.push_put.ensures.steps, c.push_put.ensures.capacity, c.tally-tally.ensures.value, space)
     (after_put _ _ _ _ _ _ _ _ _ c.self.invariant.0 room few, c.self.invariant.1, c.self.invariant.2)
 
 pub returns : goal.returns
 returns c =
     let room = c.if-not-room.ensures.0 (search rules) in
     let few = rw (c.tally-tally.ensures.value, c.from.ensures) at c.if-tally-from-gt-MAX_KEPT.false in
-    rw (← c.self.view_is, ← c.ready.view_is, c.push.ensures.steps, c.push.ensures.capacity, c.tally-tally.ensures.value)
+    rw (← c.self.view_is, ← c.ready.view_is, c.push_put.ensures.steps, c.push_put.ensures.capacity, c.tally-tally.ensures.value)
     (room, (λ much. omega arith), refl, refl)
