@@ -20,12 +20,11 @@ module _ {X : Type 0} where
   pub around : (f n b : List X) (f' n' b' : List X) → f ≡ f' → n ≡ n' → b ≡ b' → f ++ n ++ b ≡ f' ++ n' ++ b'
   around f n b f' n' b' hf hn hb = ap (λ l. l ++ n ++ b) hf ∙ ap (λ l. f' ++ l ++ b) hn ∙ ap (λ l. f' ++ n' ++ l) hb
 
-pub entries-around : (list below rest new above : Space) (s : Stamped)
-    → below ≡ take (place list s.path) list → rest ≡ drop (place list s.path) list → new ≡ s ∷ []
-    → with_entry rest s ≡ s ∷ above → below ++ new ++ above ≡ with_entry list s
-entries-around list below rest new above s hb hr hn hw =
-    ap (λ l. below ++ l ++ above) hn
-    ∙ append_assoc below (s ∷ []) above
+pub entries-around : (list below rest above : Space) (s : Stamped)
+    → below ≡ take (place list s.path) list → rest ≡ drop (place list s.path) list
+    → with_entry rest s ≡ s ∷ above → below ++ s ∷ [] ++ above ≡ with_entry list s
+entries-around list below rest above s hb hr hw =
+    append_assoc below (s ∷ []) above
     ∙ ap (λ l. below ++ l) (sym hw)
     ∙ ap (λ l. l ++ with_entry rest s) hb
     ∙ ap (λ l. take (place list s.path) list ++ with_entry l s) hr
