@@ -25,13 +25,13 @@ steps_push (c ∷ bs) bytes b path e l =
 
 -- a step's path is none of its counts
 pub same_tally : (t : Tally) (b : Brief) (p q : Name) → tally_with t (step_of b p) ≡ tally_with t (step_of b q)
-same_tally t (brief.Put seat number len entry size) p q = refl
+same_tally t (brief.Put seat number entry size len) p q = refl
 same_tally t (brief.Missed seat number) p q = refl
 same_tally t (brief.LookedPlaces seat number len) p q = refl
 same_tally t (brief.LookedStats seat number) p q = refl
-same_tally t (brief.Asked seat number len version hit) p q = refl
-same_tally t (brief.Placed seat number len base pages) p q = refl
+same_tally t (brief.Asked seat number version hit len) p q = refl
+same_tally t (brief.Placed seat number base pages len) p q = refl
 same_tally t (brief.Answered seat number note) p q = refl
 same_tally t (brief.Evicted seat number len) p q = refl
-same_tally t (brief.Stored seat number len version) p q = refl
-same_tally t (brief.Flushed seat number len held) p q = refl
+same_tally t (brief.Stored seat number version len) p q = refl
+same_tally t (brief.Flushed seat number held len) p q = refl

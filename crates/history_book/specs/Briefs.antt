@@ -11,29 +11,29 @@ use Rattle.history_book.specs.declared.step.Step.TheVariants.{Answered, Evicted,
 
 -- the step with this path, if it has one
 abbrev pub step_of : Brief → Name → Step
-step_of (brief.Put seat number len entry size) path = Put seat number path entry size
+step_of (brief.Put seat number entry size len) path = Put seat number path entry size
 step_of (brief.Missed seat number) path = Missed seat number
 step_of (brief.LookedPlaces seat number len) path = Looked seat number (Places path)
 step_of (brief.LookedStats seat number) path = Looked seat number Stats
-step_of (brief.Asked seat number len version hit) path = Asked seat number path version hit
-step_of (brief.Placed seat number len base pages) path = Placed seat number path base pages
+step_of (brief.Asked seat number version hit len) path = Asked seat number path version hit
+step_of (brief.Placed seat number base pages len) path = Placed seat number path base pages
 step_of (brief.Answered seat number note) path = Answered seat number note
 step_of (brief.Evicted seat number len) path = Evicted seat number path
-step_of (brief.Stored seat number len version) path = Stored seat number path version
-step_of (brief.Flushed seat number len held) path = Flushed seat number path held
+step_of (brief.Stored seat number version len) path = Stored seat number path version
+step_of (brief.Flushed seat number held len) path = Flushed seat number path held
 
 -- how many bytes its path has
 abbrev pub len_of : Brief → ℕ
-len_of (brief.Put seat number len entry size) = len
+len_of (brief.Put seat number entry size len) = len
 len_of (brief.Missed seat number) = 0
 len_of (brief.LookedPlaces seat number len) = len
 len_of (brief.LookedStats seat number) = 0
-len_of (brief.Asked seat number len version hit) = len
-len_of (brief.Placed seat number len base pages) = len
+len_of (brief.Asked seat number version hit len) = len
+len_of (brief.Placed seat number base pages len) = len
 len_of (brief.Answered seat number note) = 0
 len_of (brief.Evicted seat number len) = len
-len_of (brief.Stored seat number len version) = len
-len_of (brief.Flushed seat number len held) = len
+len_of (brief.Stored seat number version len) = len
+len_of (brief.Flushed seat number held len) = len
 
 -- how many bytes their paths have
 abbrev pub paths_len : List Brief → ℕ

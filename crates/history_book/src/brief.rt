@@ -13,9 +13,9 @@ pub(crate) enum Brief {
     Put {
         seat: u32,
         number: u64,
-        len: u8,
         entry: Shared<Entry>,
         size: u32,
+        len: u8,
     },
     Missed {
         seat: u32,
@@ -33,16 +33,16 @@ pub(crate) enum Brief {
     Asked {
         seat: u32,
         number: u64,
-        len: u8,
         version: u64,
         hit: bool,
+        len: u8,
     },
     Placed {
         seat: u32,
         number: u64,
-        len: u8,
         base: u64,
         pages: u32,
+        len: u8,
     },
     Answered {
         seat: u32,
@@ -57,14 +57,14 @@ pub(crate) enum Brief {
     Stored {
         seat: u32,
         number: u64,
-        len: u8,
         version: u64,
+        len: u8,
     },
     Flushed {
         seat: u32,
         number: u64,
-        len: u8,
         held: bool,
+        len: u8,
     },
 }
 

@@ -110,7 +110,9 @@ impl Ticket {
     }
 }
 
-/// The ticket of a link request on this version, which is the snapshot's.
+/// The ticket of a link request on this version, which is the snapshot's. It stands apart, so that
+/// a hit, which has none, clears no room for it.
+#[inline(never)]
 pub(crate) fn ticket_of(
     seat: u32,
     number: u64,
