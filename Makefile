@@ -176,6 +176,7 @@ bench: build links stores turns shares
 	@bench/store.sh $(STORE_CASES)
 	@bench/lock.sh $(TURNS)
 	@bench/session.sh $(OMOSD)
+	@bench/cold.sh $(OMOSD)
 	@bench/shared.sh $(OMOSD) $(SHARED_CASES)
 	@bench/misses.py $(OMOSD)
 	@bench/hits.sh $(OMOSD) $(OMOS)

@@ -3,17 +3,14 @@
 # are new. Each figure is the difference of two whole runs of `omosd stdio`, a number of requests
 # apart, after the replies were compared. Then `omosd workload 100`, whole, by image.
 #
-# Then it times a whole session that publishes 200 objects, each of which calls the next, and links
-# a blueprint that joins them, beside ld, gold, lld and tcc, those that are installed, on the same
-# objects, after the code that each linked was compared: the median and the least of ROUNDS runs, 41
-# if left out.
+# Then it times hits of an image of 8 KiB over pipes, beside a C program that answers as many bytes
+# (bench/pipes.c, which also asks both): the median round trip and the least of 20,000.
 #
-#   usage: bench/session.sh OMOSD [ROUNDS]
+#   usage: bench/session.sh OMOSD
 set -eu
 omosd=$(realpath "$1")
-rounds=${2:-41}
 . "$(dirname "$0")/common.sh"
-need as gcc ld objcopy python3 valgrind
+need as gcc python3 valgrind
 
 gcc -c -ffreestanding -fno-stack-protector -O2 -o numerals.o "$here/examples/numerals/numerals.c"
 "$omosd" once < numerals.o > once
@@ -65,59 +62,31 @@ taken=$(collected "$omosd" workload 100)
 [ "$(cat output)" = "$line" ] || { echo "the workload's line is another"; exit 1; }
 echo "workload 100: $((taken / 200)) instructions an image, of 200 images, 100 of them hits"
 
-for ((i = 0; i < 200; i++)); do
-  start=; ((i)) || start='.globl _start\n_start:\n'
-  text=".globl f$i\n.balign 16\nf$i: call f$(((i + 1) % 200))\nret\n.skip 10, 0x90\n"
-  printf "$start$text" | as -o "$(printf ring%03d.o $i)" -
-done
-python3 - <<'PY'
-import glob, struct
-from pathlib import Path
-files = sorted(glob.glob("ring*.o"))
-count = len(files)
+gcc -O2 -Wall -o pipes "$here/bench/pipes.c"
+as -o code.o - <<END
+        .globl _start
+_start: mov \$60, %eax
+        syscall
+        .skip 4000, 0x90
+END
+python3 - "$omosd" <<'PY'
+import struct, subprocess, sys
 def frame(body): return struct.pack("<I", len(body)) + body
 def path(name): return struct.pack("<H", len(name)) + name
-def call(i): return b"\xe8" + struct.pack("<i", 16 * ((i + 1) % count - i) - 5)
-requests = b"".join(
-    frame(b"\x01" + path(b"/o/%d" % i) + Path(name).read_bytes()) for i, name in enumerate(files))
-text = b"(image (merge" + b"".join(b" /o/%d" % i for i in range(count)) + b"))"
-requests += frame(b"\x02" + path(b"/all") + text) + frame(b"\x03" + path(b"/all")) + frame(b"\x07")
-Path("ring").write_bytes(requests)
-Path("code").write_bytes(b"".join(call(i) + b"\xc3" + b"\x90" * 10 for i in range(count)))
+link = frame(b"\x03" + path(b"/p"))
+setup = frame(b"\x01" + path(b"/a") + open("code.o", "rb").read())
+setup += frame(b"\x02" + path(b"/p") + b"(image /a)") + link
+ran = subprocess.run([sys.argv[1], "stdio", "4", "65536"], input=setup + link + frame(b"\x07"),
+                     stdout=subprocess.PIPE, check=True)
+replies = ran.stdout[:-5]
+size = 4 + struct.unpack("<I", replies[26:30])[0]
+assert len(replies) == 26 + 2 * size and replies[26:26 + size] == replies[-size:]
+for name, data in (("setup", setup), ("begin", replies[:-size]), ("request", link),
+                   ("reply", replies[-size:])):
+    open(name, "wb").write(data)
 PY
-linkers=(omosd ld)
-for tool in ld.gold ld.lld tcc; do type -P $tool > /dev/null && linkers+=($tool); done
-python3 - "$omosd" "$rounds" "${linkers[@]}" <<'PY'
-import glob, statistics, subprocess, sys, time
-omosd, rounds, linkers = sys.argv[1], int(sys.argv[2]), sys.argv[3:]
-files = sorted(glob.glob("ring*.o"))
-commands = {
-    "omosd": [omosd, "stdio", "4", "1000"],
-    "ld": ["ld", "-Ttext=0x400000", "-o", "out.ld"] + files,
-    "ld.gold": ["ld.gold", "-Ttext=0x400000", "-o", "out.ld.gold"] + files,
-    "ld.lld": ["ld.lld", "--image-base=0x400000", "-o", "out.ld.lld"] + files,
-    "tcc": ["tcc", "-nostdlib", "-static", "-o", "out.tcc"] + files,
-}
-def run(linker):
-    with open("ring", "rb") as source, open("replies", "wb") as sink:
-        start = time.perf_counter()
-        subprocess.run(commands[linker], stdin=source, stdout=sink, check=True)
-        return 1000 * (time.perf_counter() - start)
-def linked(linker):
-    if linker == "omosd":
-        replies = open("replies", "rb").read()
-        assert replies.endswith(b"\x01\0\0\0\x87"), "not answered to the end"
-        return replies[-5 - 8192:-5][4096:4096 + 16 * len(files)]
-    subprocess.run(["objcopy", "-O", "binary", "-j", ".text", "out." + linker, "text"], check=True)
-    return open("text", "rb").read()[:16 * len(files)]
-wanted = open("code", "rb").read()
-times = {linker: [] for linker in linkers}
-for linker in linkers:
-    run(linker)
-    assert linked(linker) == wanted, linker + " linked other code"
-for _ in range(rounds):
-    for linker in linkers: times[linker].append(run(linker))
-for linker in linkers:
-    median, least = statistics.median(times[linker]), min(times[linker])
-    print(f"{len(files)} objects, {linker}: {median:.1f} ms, least {least:.1f}")
-PY
+for program in omosd plain omosd plain; do
+  if [ $program = omosd ]; then words=("$omosd" stdio 4 65536); else words=(./pipes answer begin reply); fi
+  echo "a hit of $(stat -c %s reply) bytes over pipes, $program:" \
+    "$(./pipes ask setup begin request reply 20000 "${words[@]}") us"
+done
