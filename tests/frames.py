@@ -88,7 +88,7 @@ def front(data):
     return ("frame", 4 + length, (word, *fields))
 
 
-def stream_line(data):
+def stream_line(data, sizes=(1, 2, 3, 7, 4096)):
     """The line of a stream: what comes, and after how many bytes by pieces of each size."""
     words, places, place, end = [], [], 0, None
     while end is None:
@@ -105,10 +105,10 @@ def stream_line(data):
             end = "for good"
         else:
             end = f"{len(data) - place} wait"
-    line = "; ".join(words + [end]) + ";"
-    for size in (1, 2, 3, 7, 4096):
+    line = "; ".join(words + [end])
+    for size in sizes:
         fed = [min(-(-n // size) * size, len(data)) for n in places]
-        line += f"{',' if size > 1 else ''} by {size}:" + "".join(f" {n}" for n in fed)
+        line += f"; by {size}:" + "".join(f" {n}" for n in fed)
     return line
 
 

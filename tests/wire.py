@@ -7,12 +7,13 @@
 
 The frames are built and read by tests/frames.py, runs of the client by tests/runs.py: from the text
 of docs/FORMATS.md, whose table of codes they read, and with no call of the program. The examples of
-the document are cases too, and each must be what its row says.
+the document are cases too, and each must be what its row says. Ends with 'N passed, M failed'.
 """
 
 import re
 import subprocess
 import sys
+from itertools import zip_longest
 from pathlib import Path
 
 from frames import CODES, KINDS, LONGEST_REPLY, LONGEST_REQUEST, REQUESTS, field, framed, front
@@ -26,8 +27,8 @@ HEAD = """\
 # The cases of wire_cases, a line each, and what is to come of them in ../stdout: both were made by
 # tests/wire.py. Bytes are hexadecimal, `COUNT*BYTE` for so many of one byte, `-` for none.
 #
-#   stream | NAME | BYTES                   a stream of requests, in pieces of 1, 2, 3, 7 and 4,096
-#   reply  | NAME | BYTES                   the frame of a reply
+#   stream SIZE.. | NAME | BYTES            a stream of requests, in pieces of each size
+#   reply | NAME | BYTES                    the frame of a reply
 #   client | NAME | WORDS | FILE | BYTES    the client's words, what its file `f` holds, or `none`,
 #                                           and what comes from the server
 #   faults | NAME | WORDS | FILE | BYTES    the same, and then with each read failing in turn, the
@@ -47,7 +48,7 @@ def spelled(data):
 
 def stream(name, *frames):
     text = " ".join(spelled(frame) for frame in frames)
-    return "stream", name, text, stream_line(b"".join(frames))
+    return "stream 1 2 3 7 4096", name, text, stream_line(b"".join(frames))
 
 
 def reply(name, frame):
@@ -206,7 +207,12 @@ def examples(cell):
 
 def hold(true, what):
     if not true:
-        sys.exit(f"tests/wire.py: docs/FORMATS.md: {what}")
+        end(f"docs/FORMATS.md: {what}")
+
+
+def end(*what):
+    print(*what, "0 passed, 1 failed", sep="\n")
+    sys.exit(1)
 
 
 def documented():
@@ -250,15 +256,17 @@ def main():
         return
     for file, text in files.items():
         if file.read_text() != text:
-            sys.exit(f"{file} isn't what tests/wire.py makes: tests/wire.py write")
+            end(f"{file} isn't what tests/wire.py makes: tests/wire.py write")
+    wrong = []
     if sys.argv[1:]:
         program = Path(sys.argv[1]).resolve()
         got = subprocess.run([program], cwd=CRATE / "data", capture_output=True, text=True)
-        wrong = [f"wanted {w}\ngot    {g}" for w, g in
-                 zip(lines.splitlines(), got.stdout.splitlines()) if w != g]
-        if got.returncode or got.stdout != lines:
-            sys.exit("\n".join(wrong[:5] + [got.stderr, f"{len(wrong)} lines differ"]))
-    print(f"{len(made)} cases are as the formats say")
+        pairs = list(zip_longest(lines.splitlines(), got.stdout.splitlines()))
+        wrong = [f"wanted {line}\n   got {other}" for line, other in pairs if line != other]
+        if got.returncode:
+            end(*wrong[:5], got.stderr, f"status {got.returncode}")
+    print(*wrong[:5], f"{len(made) - len(wrong)} passed, {len(wrong)} failed", sep="\n")
+    sys.exit(bool(wrong))
 
 
 if __name__ == "__main__":

@@ -22,10 +22,11 @@ use anyhow::{Context, Result, bail};
 use std::alloc::Global;
 use std::fs;
 
-/// What came of a case of this kind: its line without its name.
+/// What came of a case of this kind, `stream SIZE..` or a word: its line without its name.
 fn line_of(alloc: Global, kind: &str, rest: &str) -> Result<String> {
-    match kind {
-        "stream" => stream_line(alloc, bytes_of(alloc, rest)?.as_slice()),
+    let (word, sizes) = kind.split_once(' ').unwrap_or((kind, ""));
+    match word {
+        "stream" => stream_line(alloc, sizes, bytes_of(alloc, rest)?.as_slice()),
         "reply" => reply_line(alloc, bytes_of(alloc, rest)?.as_slice()),
         "client" => told(alloc, &Case::read(rest)?),
         "faults" => turns(alloc, &Case::read(rest)?),

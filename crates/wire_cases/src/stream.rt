@@ -1,7 +1,8 @@
 //! A stream of requests, cut into pieces.
 
 use crate::request::{cause_word, words_of};
-use anyhow::Result;
+use anyhow::{Context, Result, bail};
+use omos_base::NoMemory;
 use omos_wire::{Decoder, Found};
 use std::alloc::Global;
 
@@ -29,9 +30,20 @@ impl Heard {
     }
 }
 
+/// The call that takes in a piece, apart from its caller so that it can be measured; so is the next.
+#[inline(never)]
+fn feed(decoder: &mut Decoder, piece: &[u8]) -> Result<(), NoMemory> {
+    decoder.feed(piece)
+}
+
+#[inline(never)]
+fn next(decoder: &mut Decoder) -> Found<'_> {
+    decoder.next()
+}
+
 /// The next request in words, or why there is none; and whether there is one.
 fn next_words(alloc: Global, decoder: &mut Decoder) -> Result<(String, bool)> {
-    match decoder.next() {
+    match next(decoder) {
         Found::Request(request) => Ok((words_of(alloc, &request)?, true)),
         Found::More => Ok((String::new(alloc), false)),
         Found::Bad { place, cause } => {
@@ -43,7 +55,7 @@ fn next_words(alloc: Global, decoder: &mut Decoder) -> Result<(String, bool)> {
 
 /// Takes in a piece, and adds the requests that are then there. It is true once no frame begins.
 fn take(alloc: Global, decoder: &mut Decoder, piece: &[u8], heard: &mut Heard) -> Result<bool> {
-    decoder.feed(piece)?;
+    feed(decoder, piece)?;
     heard.fed = heard.fed.saturating_add(piece.len());
     for _ in 0..=decoder.waiting() {
         let (words, is_request) = next_words(alloc, decoder)?;
@@ -60,15 +72,22 @@ fn take(alloc: Global, decoder: &mut Decoder, piece: &[u8], heard: &mut Heard) -
 
 /// Whether the decoder answers the same behind a whole frame, which comes after bytes that begin
 /// none.
-fn stays(alloc: Global, decoder: &mut Decoder) -> Result<bool> {
+fn end_word(alloc: Global, decoder: &mut Decoder) -> Result<&'static str> {
     let (before, _) = next_words(alloc, decoder)?;
-    decoder.feed(&END)?;
+    feed(decoder, &END)?;
     let (after, _) = next_words(alloc, decoder)?;
-    Ok(before.as_str() == after.as_str())
+    if before.as_str() == after.as_str() {
+        Ok("for good")
+    } else {
+        Ok("not for good")
+    }
 }
 
 /// What comes of a stream in pieces of this size.
 fn hear(alloc: Global, stream: &[u8], size: usize) -> Result<Heard> {
+    if size == 0 {
+        bail!("pieces of no bytes");
+    }
     let mut decoder = Decoder::new(alloc);
     let mut heard = Heard {
         fed: 0,
@@ -77,32 +96,29 @@ fn hear(alloc: Global, stream: &[u8], size: usize) -> Result<Heard> {
     };
     for piece in stream.chunks(size) {
         if take(alloc, &mut decoder, piece, &mut heard)? {
-            let ends = if stays(alloc, &mut decoder)? {
-                "for good"
-            } else {
-                "not for good"
-            };
-            heard.words.push_str(ends)?;
+            heard.words.push_str(end_word(alloc, &mut decoder)?)?;
             return Ok(heard);
         }
     }
-    heard
-        .words
-        .push_str(&format!(in alloc; "{} wait", decoder.waiting())?)?;
+    let waiting = decoder.waiting();
+    heard.words.push_str(&format!(in alloc; "{waiting} wait")?)?;
     Ok(heard)
 }
 
 /// The line of a stream: the requests, how many bytes wait behind them or where no frame begins;
-/// and, by the size of the pieces, how many bytes were fed when each came.
-pub(crate) fn stream_line(alloc: Global, stream: &[u8]) -> Result<String> {
-    let first = hear(alloc, stream, 1)?;
-    let mut line = format!(in alloc; "{}; by 1:{}", first.words, first.places)?;
-    for size in [2, 3, 7, 4_096] {
-        let heard = hear(alloc, stream, size)?;
-        line.push_str(&format!(in alloc; ", by {size}:{}", heard.places)?)?;
-        if heard.words.as_str() != first.words.as_str() {
-            line.push_str(&format!(in alloc; " OTHERS: {}", heard.words)?)?;
+/// and, by each size of the pieces, how many bytes were fed when each came.
+pub(crate) fn stream_line(alloc: Global, sizes: &str, stream: &[u8]) -> Result<String> {
+    let mut words = String::new(alloc);
+    let mut places = String::new(alloc);
+    for size in sizes.split_whitespace() {
+        let heard = hear(alloc, stream, size.parse().context("a size")?)?;
+        if words.is_empty() {
+            words.push_str(&heard.words)?;
+        }
+        places.push_str(&format!(in alloc; "; by {size}:{}", heard.places)?)?;
+        if words.as_str() != heard.words.as_str() {
+            places.push_str(&format!(in alloc; " OTHERS: {}", heard.words)?)?;
         }
     }
-    Ok(line)
+    Ok(format!(in alloc; "{words}{places}")?)
 }
