@@ -1,10 +1,10 @@
 #!/usr/bin/env bash
-# Counts, by callgrind, the instructions inside the calls `feed` and `next` of a decoder: a byte of a
-# large put, in the pieces in which a session reads and byte by byte, and a small request. What the
-# decoder hands out, and after how many bytes, is compared with what the formats say.
+# Counts, by callgrind, the instructions inside the calls `feed` and `next` of a decoder: for a byte
+# of a large put, in large pieces and byte by byte, and for a small request. What the decoder hands
+# out, and after how many bytes, is compared with what the formats say.
 #
-# Callgrind counts a string instruction (`rep movsb`, by which the C library's memcpy copies a piece)
-# once for each byte that it moves, so what the copies take stands apart.
+# Callgrind counts a string instruction (`rep movsb`, by which the C library copies a piece) once
+# for each byte that it moves, so what the copies take is told apart.
 #
 #   usage: bench/wire.sh WIRE_CASES
 set -eu
@@ -32,7 +32,8 @@ END
 taken() { # SIZE KIND COUNT: the instructions inside both calls
     local count
     stream "$@"
-    count=$(collected --toggle-collect=wire_cases::stream::feed --toggle-collect=wire_cases::stream::next "$cases")
+    count=$(collected --toggle-collect=wire_cases::stream::feed \
+        --toggle-collect=wire_cases::stream::next "$cases")
     if ! cmp -s output wanted || ! [ "$count" -gt 0 ]; then
         echo "bench: $* took $count instructions, $(head -c 200 output)" >&2
         exit 1
@@ -53,11 +54,11 @@ put() { # SIZE COUNT: the line of a put of so many bytes, and of one of half
     whole=$(taken "$1" put "$2")
     copies=$(copied)
     python3 -c "
-print(f'a put of {$2:,} bytes in pieces of {$1:,}: {$whole / $2:.2f} instructions a byte, '
-      f'{$copies / $2:.2f} of them in copies; {$whole / $half:.2f} times as many for twice the bytes')"
+print(f'a put of {$2:,} bytes in pieces of {$1:,}: {$whole / $2:.2f} instructions a byte, of which',
+      f'{$copies / $2:.2f} in copies; twice the bytes take {$whole / $half:.2f} times as many')"
 }
 
-put 65536 2000000
+put 16384 2000000
 put 4096 2000000
 put 1 200000
 few=$(taken 4096 links 1000)
