@@ -199,7 +199,7 @@ def words_of(reply):
     """A reply as a line of wire_cases tells it."""
     word, *values = reply
     if word == "image":
-        return f"image {values[0]} {values[1]:#x} {shown(values[2])}"
+        return f"image {values[0]} {values[1]} {shown(values[2])}"
     if word == "refused":
         line = refusal_line(reply)
         try:
@@ -207,7 +207,7 @@ def words_of(reply):
         except UnicodeDecodeError:
             return shown(line)
     if word == "places":
-        return "places" + "".join(f" {base:#x} {pages}" for base, pages in values[0])
+        return "places" + "".join(f" {base} {pages}" for base, pages in values[0])
     if word == "counts":
         return " ".join(["counts"] + [str(n) for n in values[0]])
     return " ".join([word] + [str(v) for v in values])

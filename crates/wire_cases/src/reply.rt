@@ -10,16 +10,34 @@ use omos_wire::{Reply, ReplyParts, Span, read_reply, write_reply};
 use refusal_lines::{Refused, line_of};
 use std::alloc::Global;
 
+/// A word, and numbers behind it.
+fn numbered(alloc: Global, word: &str, numbers: &[u64]) -> Result<String> {
+    let mut text = String::from_str(alloc, word)?;
+    for number in numbers {
+        text.push_str(&format!(in alloc; " {number}")?)?;
+    }
+    Ok(text)
+}
+
 fn counts_text(alloc: Global, n: &Counts) -> Result<String> {
-    let first = format!(in alloc; "counts {} {} {}", n.version, n.paths, n.placements)?;
-    let links = format!(in alloc; "{} {} {}", n.asked, n.hits, n.stored)?;
-    Ok(format!(in alloc; "{first} {links} {} {} {}", n.evicted, n.held, n.steps)?)
+    let numbers = [
+        n.version,
+        n.paths,
+        n.placements,
+        n.asked,
+        n.hits,
+        n.stored,
+        n.evicted,
+        n.held,
+        n.steps,
+    ];
+    numbered(alloc, "counts", &numbers)
 }
 
 fn places_text(alloc: Global, spans: &[Span]) -> Result<String> {
     let mut text = String::from_str(alloc, "places")?;
     for span in spans {
-        text.push_str(&format!(in alloc; " {:#x} {}", span.base, span.pages)?)?;
+        text = numbered(alloc, &text, &[span.base, u64::from(span.pages)])?;
     }
     Ok(text)
 }
@@ -34,14 +52,15 @@ fn refused_text(alloc: Global, refused: &Refused) -> Result<String> {
 }
 
 fn image_text(alloc: Global, version: u64, base: u64, bytes: &[u8]) -> Result<String> {
+    let numbers = numbered(alloc, "image", &[version, base])?;
     let bytes = shown(alloc, bytes)?;
-    Ok(format!(in alloc; "image {version} {base:#x} {bytes}")?)
+    Ok(format!(in alloc; "{numbers} {bytes}")?)
 }
 
 /// A reply in words.
 fn words_of(alloc: Global, reply: &ReplyParts) -> Result<String> {
     match reply {
-        ReplyParts::Published(version) => Ok(format!(in alloc; "published {version}")?),
+        ReplyParts::Published(version) => numbered(alloc, "published", &[*version]),
         ReplyParts::Image {
             version,
             base,
@@ -50,11 +69,11 @@ fn words_of(alloc: Global, reply: &ReplyParts) -> Result<String> {
         ReplyParts::Refused(refused) => refused_text(alloc, refused),
         ReplyParts::Places(spans) => places_text(alloc, spans.as_slice()),
         ReplyParts::Counts(counts) => counts_text(alloc, counts),
-        ReplyParts::Flushed(held) => Ok(format!(in alloc; "flushed {}", u8::from(*held))?),
-        ReplyParts::Bye => Ok(String::from_str(alloc, "bye")?),
-        ReplyParts::NoMemory => Ok(String::from_str(alloc, "no memory")?),
-        ReplyParts::Full => Ok(String::from_str(alloc, "full")?),
-        ReplyParts::KeptFull => Ok(String::from_str(alloc, "kept full")?),
+        ReplyParts::Flushed(held) => numbered(alloc, "flushed", &[u64::from(*held)]),
+        ReplyParts::Bye => numbered(alloc, "bye", &[]),
+        ReplyParts::NoMemory => numbered(alloc, "no memory", &[]),
+        ReplyParts::Full => numbered(alloc, "full", &[]),
+        ReplyParts::KeptFull => numbered(alloc, "kept full", &[]),
     }
 }
 
