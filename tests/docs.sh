@@ -1,8 +1,8 @@
 #!/usr/bin/env bash
 # What is written for readers: that links and named files are there, that lines have at most 100
 # columns, that nothing outside the repository is cited, that the pages of man/ lint (where mandoc
-# is installed), that the tables of refusals and of codes are the program's, and that each frame that
-# is shown is one. Ends with 'N passed, M failed'.
+# is installed), that the tables of refusals and of codes are the program's, and that each frame
+# that is shown is one. Ends with 'N passed, M failed'.
 #
 #   usage: tests/docs.sh
 set -u
