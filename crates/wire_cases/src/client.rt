@@ -1,5 +1,7 @@
 //! A run of the client over what comes, goes, is printed and lies in memory.
 
+ghost use Rattle.std.specs.Prelude.{◌<◌};
+
 use crate::text::{bytes_of, shown};
 use anyhow::{Context, Result};
 use omos_base::{Bytes, Row};
@@ -91,19 +93,26 @@ fn only(alloc: Global, call: u32) -> Result<Row<u32>> {
     Ok(calls)
 }
 
+/// How many bytes a call moves at most: one where a call is to fail.
+fn step_for(call: u32) -> u32
+    ensures { 0 < result }
+{
+    if call == 0 { u32::MAX } else { 1 }
+}
+
 /// What comes, a byte a call where a call is to fail.
 fn source_of(alloc: Global, incoming: &str, outside: Outside) -> Result<MemorySource> {
     let mut bytes = bytes_of(alloc, incoming)?;
     bytes.truncate(outside.comes);
-    let step = if outside.read == 0 { u32::MAX } else { 1 };
     let fails = only(alloc, outside.read)?;
-    Ok(MemorySource::new(Bytes::from_vec(bytes), step, fails))
+    let bytes = Bytes::from_vec(bytes);
+    Ok(MemorySource::new(bytes, step_for(outside.read), fails))
 }
 
 /// A sink, which takes a byte a call where a call is to fail.
 fn sink_of(alloc: Global, room: u32, call: u32) -> Result<MemorySink> {
-    let step = if call == 0 { u32::MAX } else { 1 };
-    Ok(MemorySink::new(alloc, room, step, only(alloc, call)?)?)
+    let fails = only(alloc, call)?;
+    Ok(MemorySink::new(alloc, room, step_for(call), fails)?)
 }
 
 fn files_of(alloc: Global, content: Option<Bytes>, call: u32) -> Result<MemoryFiles> {

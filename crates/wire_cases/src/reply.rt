@@ -1,5 +1,7 @@
 //! A reply that is read, told in words, and written again.
 
+ghost use Rattle.omos_wire.specs.Answer.{IsSendable, answer_of};
+
 use crate::text::shown;
 use anyhow::{Context, Result, bail};
 use hub_store::Counts;
@@ -91,8 +93,14 @@ fn placements_of(alloc: Global, spans: &[Span]) -> Result<Row<Placement>> {
     Ok(placements)
 }
 
+fn put(alloc: Global, reply: &Reply<'_>, sink: &mut MemorySink) -> Sent
+    requires { IsSendable (answer_of reply.now) }
+{
+    write_reply(reply, &mut Vec::new(alloc), sink)
+}
+
 /// Writes an image of this version and address.
-fn send_image(
+fn put_image(
     alloc: Global,
     (version, base): (u64, u64),
     bytes: &[u8],
@@ -106,37 +114,35 @@ fn send_image(
         base,
         bytes,
     };
-    Ok(write_reply(&reply, &mut Vec::new(alloc), sink))
+    Ok(put(alloc, &reply, sink))
 }
 
-fn send_places(alloc: Global, spans: &[Span], sink: &mut MemorySink) -> Result<Sent> {
+fn put_places(alloc: Global, spans: &[Span], sink: &mut MemorySink) -> Result<Sent> {
     let placements = placements_of(alloc, spans)?;
     if placements.len() > 1_000_000 {
         bail!("{} placements", placements.len());
     }
-    let reply = Reply::Places(placements.as_slice());
-    Ok(write_reply(&reply, &mut Vec::new(alloc), sink))
+    Ok(put(alloc, &Reply::Places(placements.as_slice()), sink))
 }
 
 /// Writes a reply that was read.
 fn send(alloc: Global, parts: &ReplyParts, sink: &mut MemorySink) -> Result<Sent> {
-    let reply = match parts {
-        ReplyParts::Published(version) => Reply::Published(*version),
+    Ok(match parts {
+        ReplyParts::Published(version) => put(alloc, &Reply::Published(*version), sink),
         ReplyParts::Image {
             version,
             base,
             bytes,
-        } => return send_image(alloc, (*version, *base), bytes.as_slice(), sink),
-        ReplyParts::Refused(refused) => Reply::Refused(refused),
-        ReplyParts::Places(spans) => return send_places(alloc, spans.as_slice(), sink),
-        ReplyParts::Counts(counts) => Reply::Counts(*counts),
-        ReplyParts::Flushed(held) => Reply::Flushed(*held),
-        ReplyParts::Bye => Reply::Bye,
-        ReplyParts::NoMemory => Reply::NoMemory,
-        ReplyParts::Full => Reply::Full,
-        ReplyParts::KeptFull => Reply::KeptFull,
-    };
-    Ok(write_reply(&reply, &mut Vec::new(alloc), sink))
+        } => put_image(alloc, (*version, *base), bytes.as_slice(), sink)?,
+        ReplyParts::Refused(refused) => put(alloc, &Reply::Refused(refused), sink),
+        ReplyParts::Places(spans) => put_places(alloc, spans.as_slice(), sink)?,
+        ReplyParts::Counts(counts) => put(alloc, &Reply::Counts(*counts), sink),
+        ReplyParts::Flushed(held) => put(alloc, &Reply::Flushed(*held), sink),
+        ReplyParts::Bye => put(alloc, &Reply::Bye, sink),
+        ReplyParts::NoMemory => put(alloc, &Reply::NoMemory, sink),
+        ReplyParts::Full => put(alloc, &Reply::Full, sink),
+        ReplyParts::KeptFull => put(alloc, &Reply::KeptFull, sink),
+    })
 }
 
 /// What is written of a reply whose frame this is, by a sink that fails at a call, counted from 1.
