@@ -30,7 +30,7 @@ impl Heard {
     }
 }
 
-/// The call that takes in a piece, apart from its caller so that it can be measured; so is the next.
+/// Takes in a piece. It stands apart from its caller, as the next does, so that it can be measured.
 #[inline(never)]
 fn feed(decoder: &mut Decoder, piece: &[u8]) -> Result<(), NoMemory> {
     decoder.feed(piece)
