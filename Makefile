@@ -13,6 +13,8 @@ TURNS := crates/turn_bench/out/turn_bench
 
 SHARED_CASES := crates/shared_cases/out/shared_cases
 
+WIRE_CASES := crates/wire_cases/out/wire_cases
+
 # Where `make install` puts the programs, the scripts of contrib/, their pages and their data.
 PREFIX ?= /usr/local
 DESTDIR ?=
@@ -21,7 +23,7 @@ COMPLETIONS := $(PREFIX)/share/bash-completion/completions
 SCRIPTS := omos-explain omos-put-dir omos-run
 
 .PHONY: help try try-test build demo server live test trials contrib docs house examples real \
-	links stores turns shares sweep bench memory clean install uninstall
+	links stores turns shares wires sweep bench memory clean install uninstall
 
 help:
 	@echo "make try     builds omosd and omos with no proof, in a minute or two, and runs the demo"
@@ -33,7 +35,9 @@ help:
 	@echo "make try-test  the same with the programs of make try"
 	@echo "make examples  runs each of examples/ and compares what it prints"
 	@echo "make contrib  tries the scripts of contrib/, the completions and make install"
-	@echo "make docs    looks at links, names of files and the table of refusals in docs/ and man/"
+	@echo "make docs    looks at links, names of files, the tables of refusals and of codes, and the"
+	@echo "             examples of frames in docs/ and man/"
+	@echo "make wires   compares frames, streams and runs of the client with the formats' text"
 	@echo "make house   makes ARCHITECTURE's table of crates from crates.txt, and draws docs/house.svg"
 	@echo "make install, make uninstall  with PREFIX=, which is /usr/local"
 	@echo "make real    compares what is kept of compilers' objects with readelf, and runs with ld's"
@@ -158,6 +162,13 @@ shares:
 	    { tail -n 20 out.log; exit 1; }
 	@rm -f crates/shared_cases/out.log
 
+wires:
+	@rm -f $(WIRE_CASES)
+	@cd crates/wire_cases && rt run > out.log 2>&1; test -x out/wire_cases || \
+	    { tail -n 20 out.log; exit 1; }
+	@rm -f crates/wire_cases/out.log
+	@tests/wire.py $(WIRE_CASES)
+
 memory: build
 	@tests/memory.py $(OMOSD) $(OMOS)
 
@@ -166,7 +177,7 @@ sweep: links
 	@tests/texts.py $(LINK_CASES)
 	@tests/versions.py $(LINK_CASES)
 
-bench: build links stores turns shares
+bench: build links stores turns shares wires
 	@bench/once.sh $(OMOSD)
 	@bench/objects.sh $(OMOSD)
 	@bench/operators.sh $(LINK_CASES)
@@ -175,6 +186,7 @@ bench: build links stores turns shares
 	@bench/publish.sh $(LINK_CASES)
 	@bench/store.sh $(STORE_CASES)
 	@bench/lock.sh $(TURNS)
+	@bench/wire.sh $(WIRE_CASES)
 	@bench/session.sh $(OMOSD)
 	@bench/cold.sh $(OMOSD)
 	@bench/shared.sh $(OMOSD) $(SHARED_CASES)

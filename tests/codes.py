@@ -5,7 +5,7 @@
 
 The rows of crates/refusal_lines/specs/Codes.antt, which every line and every frame of a refusal
 meets, are read as text: name, code, and each field as the document writes it. Each row must stand
-in the document, and no other may.
+in the document, and no other may. Ends with 'N passed, M failed'.
 """
 
 import re
@@ -56,9 +56,8 @@ def main():
         if ours.get(name) != theirs.get(name):
             print(f"{name}: proved {ours.get(name)}, written {theirs.get(name)}")
             wrong += 1
-    if wrong or not ours:
-        sys.exit(f"{wrong} of {len(ours)} codes differ")
-    print(f"{len(ours)} codes are as written")
+    print(f"{len(ours) - wrong} passed, {wrong} failed")
+    sys.exit(wrong > 0 or not ours)
 
 
 if __name__ == "__main__":

@@ -1,7 +1,8 @@
 #!/usr/bin/env bash
 # What is written for readers: that links and named files are there, that lines have at most 100
 # columns, that nothing outside the repository is cited, that the pages of man/ lint (where mandoc
-# is installed), and that the table of refusals is the program's. Ends with 'N passed, M failed'.
+# is installed), that the tables of refusals and of codes are the program's, and that each frame
+# that is shown is one. Ends with 'N passed, M failed'.
 #
 #   usage: tests/docs.sh
 set -u
@@ -34,9 +35,9 @@ texts = sorted(glob.glob("*.md") + glob.glob("docs/*.md") + glob.glob("examples/
     recursive=True) + glob.glob("docs/*.txt"))
 pages = sorted(glob.glob("man/*.[157]"))
 scripts = sorted(glob.glob("contrib/*") + glob.glob("examples/*.sh") + glob.glob("man/*.py")
-    + ["tests/docs.sh", "tests/contrib.sh", "tests/readme.py", "tests/sites.py", "Makefile",
-       "bench/serving.sh", "bench/hits.sh", "bench/hits.c", "bench/wrapping.sh",
-       "bench/picture.py"])
+    + ["tests/docs.sh", "tests/contrib.sh", "tests/readme.py", "tests/sites.py", "tests/codes.py",
+       "tests/wire.py", "tests/frames.py", "tests/runs.py", "Makefile", "bench/serving.sh",
+       "bench/hits.sh", "bench/hits.c", "bench/wrapping.sh", "bench/picture.py", "bench/wire.sh"])
 sources = sorted(glob.glob("examples/*/*"))
 counts = [0, 0]
 
@@ -91,6 +92,8 @@ for file in texts + pages + scripts + sources:
 print(f"{counts[0]} passed, {counts[1]} failed")
 PY
 
+run tests/codes.py
+run tests/wire.py
 run man/refusals.py check
 run bench/picture.py check
 run docs/house.py check
