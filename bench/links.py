@@ -1,6 +1,6 @@
 #!/usr/bin/env python3
-"""Writes objects and a case of link_cases over them into the current folder, for the scripts
-bench/operators.sh, bench/evaluate.sh and bench/sharing.sh.
+"""Writes objects and a case of link_cases over them into the current folder, for bench/operators.sh,
+bench/evaluate.sh and bench/sharing.sh.
 
     bench/links.py TESTS merge TABLES          a merge of objects with 2,000 names each
     bench/links.py TESTS chain REFERENCES OPS  so many operators over open references, of 25,000 each

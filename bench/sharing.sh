@@ -5,7 +5,6 @@
 #
 #   usage: bench/sharing.sh LINK_CASES
 set -eu
-# shellcheck source=bench/counts.sh
 . "$(dirname "$0")/counts.sh"
 
 peak() { # KIND SIZE: the most kilobytes that a run over the case holds, reading it included
@@ -19,7 +18,7 @@ compare() { # WHAT SHARED APART SIZE
     local shared apart
     shared=$(link "$2" "$4")
     apart=$(link "$3" "$4")
-    echo "$1: $shared instructions, $(ratio "$apart" "$shared") of the $apart taken apart;" \
+    echo "$1: $shared instructions, $(ratio "$apart" "$shared") of the $apart that they take apart;" \
         "at most $(peak "$2" "$4") KiB held, and $(peak "$3" "$4") apart"
 }
 

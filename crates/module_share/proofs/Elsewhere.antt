@@ -35,7 +35,7 @@ same_counts p v = go (is_among v.read p)
 
 record SameAt (k : ℕ) (v w : Visit) : Type 0 where
   node : w.node ≡ v.node
-  leaves : w.leaves ≡ v.leaves + k
+  leaves : w.leaves ≡ raised k v.leaves
 
 abbrev IsShifted : ℕ → Term → Term → Type 0
 IsShifted k t u = u ≡ shifted k t
@@ -53,19 +53,20 @@ few_leaves w f h =
     let first = and_parts (nat_lt w.leaves 256) (nat_le (w.exports + length f.exports) 524288) both.0 in
     ltb-true w.leaves 256 first.0
 
-raised_so : (k v w : ℕ) → w ≡ v + k → w < 256 → w ≡ raised k v
-raised_so k v w is few = omega (arith, is, few)
+next_raised : (k v w : ℕ) → w ≡ raised k v → w < 256 → w + 1 ≡ raised k (v + 1)
+next_raised k v w is few = omega (arith, is, few)
 
 same_ways : (k : ℕ) → Ways (IsShifted k) (SameAt k) Never Any
 same_ways k = record {
   merge = λ s l r a b e f i. Merge s (e i) (f i);
   override = λ s l r a b e f i. Override s (e i) (f i);
   apply = λ s op l a e i. Apply s op (e i);
-  leaf = λ s f v w m room i. Leaf s (raised_so k v.leaves w.leaves m.leaves (few_leaves w f room) i) f;
+  leaf = λ s f v w m i. Leaf s (m.leaves i) f;
   node = λ v w m. m.node;
   begun = λ v w m. record { node = ap (λ n. n + 1) m.node; leaves = m.leaves };
   begins = λ v w m f. absurd f;
-  left = λ f v w m. record { node = m.node; leaves = omega (arith, m.leaves) };
+  left = λ f v w m room.
+      record { node = m.node; leaves = next_raised k v.leaves w.leaves m.leaves (few_leaves w f room) };
   leaves = λ f v w m h. absurd h;
   inside = λ v w m. record { node = refl; leaves = m.leaves };
   outside = λ v w u x m n. record { node = m.node; leaves = n.leaves };
@@ -74,7 +75,7 @@ same_ways k = record {
       let b = same_counts p w in
       record {
         node = b.node ∙ m.node ∙ sym a.node;
-        leaves = b.leaves ∙ m.leaves ∙ ap (λ n. n + k) (sym a.leaves);
+        leaves = b.leaves ∙ m.leaves ∙ ap (raised k) (sym a.leaves);
       };
   back = λ v w g f. f;
 }
@@ -113,7 +114,7 @@ module _ (o p : Visit) (D : Name → Type 0) (known : (q : Name) → D q → is_
     merge = λ s l r a b e f. tt;
     override = λ s l r a b e f. tt;
     apply = λ s op l a e. tt;
-    leaf = λ s f v w m room. tt;
+    leaf = λ s f v w m. tt;
     node = λ v w m. m.node;
     begun = λ v w m.
         record {
@@ -125,7 +126,7 @@ module _ (o p : Visit) (D : Name → Type 0) (known : (q : Name) → D q → is_
           read = m.read;
         };
     begins = λ v w m f. lt-ltb w.nodes 4096 (omega (arith, m.nodes, f.nodes));
-    left = λ f v w m.
+    left = λ f v w m room.
         record {
           node = m.node;
           nodes = m.nodes;

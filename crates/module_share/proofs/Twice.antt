@@ -40,12 +40,13 @@ pub record Ways (E : Term → Term → Type 0) (M : Visit → Visit → Type 0) 
   pub merge : (s : Site) (l r a b : Term) → E l a → E r b → E (Merge s l r) (Merge s a b)
   pub override : (s : Site) (l r a b : Term) → E l a → E r b → E (Override s l r) (Override s a b)
   pub apply : (s : Site) (op : Op) (l a : Term) → E l a → E (Apply s op l) (Apply s op a)
-  pub leaf : (s : Site) (f : FragmentParts) (v w : Visit) → M v w → has_room w f ≡ true
+  pub leaf : (s : Site) (f : FragmentParts) (v w : Visit) → M v w
       → E (Leaf s v.leaves f) (Leaf s w.leaves f)
   pub node : (v w : Visit) → M v w → w.node ≡ v.node
   pub begun : (v w : Visit) → M v w → M (after_begin v) (after_begin w)
   pub begins : (v w : Visit) → M v w → F (after_begin v) → nat_lt w.nodes 4096 ≡ true
-  pub left : (f : FragmentParts) (v w : Visit) → M v w → M (after_leaf f v) (after_leaf f w)
+  pub left : (f : FragmentParts) (v w : Visit) → M v w → has_room w f ≡ true
+      → M (after_leaf f v) (after_leaf f w)
   pub leaves : (f : FragmentParts) (v w : Visit) → M v w → F (after_leaf f v) → has_room w f ≡ true
   pub inside : (v w : Visit) → M v w → M (record v { node = 0 }) (record w { node = 0 })
   pub outside : (v w u x : Visit) → M v w → M u x
@@ -105,7 +106,7 @@ module _ (E : Term → Term → Type 0) (M : Visit → Visit → Type 0) (F : Vi
   leaf_again f s v w m = go (has_room v f) (has_room w f) refl
     where
       go : (b c : Bool) → has_room w f ≡ c → Again E M F (leaf_where b f s v) (leaf_where c f s w)
-      go true true e = (ways.leaf s f v w m e, ways.left f v w m)
+      go true true e = (ways.leaf s f v w m, ways.left f v w m e)
       go true false e = λ fits. true≢false (sym (ways.leaves f v w m fits) ∙ e)
       go false c e = tt
 

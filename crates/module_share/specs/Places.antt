@@ -9,7 +9,7 @@ use Rattle.omos_model.specs.Tree.{Tree}
 use Rattle.omos_model.specs.Tree as tree
 use Rattle.omos_model.specs.Expansion.{Source, Blueprint, Visited, Visitor, visit, expand}
 use Rattle.omos_model.specs.declared.visit.Visit.{Visit}
-use Rattle.module_share.specs.Shifted.{shifted}
+use Rattle.module_share.specs.Shifted.{raised, shifted}
 
 -- an expression of the blueprint `at`, inside the blueprints `above`, where `room` more may be
 -- opened
@@ -32,9 +32,9 @@ IsClosed ns D = (p : Name) (x : Tree) → D p → ns p ≡ Some (Blueprint x) �
 abbrev pub SameTermLaw : Type 0
 SameTermLaw =
     (ns : Name → Option Source) (room more : ℕ) (above other : List Name) (at : Name) (x : Tree)
-    (k : ℕ) (v w a b : Visit) (t u : Term) → w.node ≡ v.node → w.leaves ≡ v.leaves + k
+    (k : ℕ) (v w a b : Visit) (t u : Term) → w.node ≡ v.node → w.leaves ≡ raised k v.leaves
     → tree_at ns room above at x v ≡ Ok (t, a) → tree_at ns more other at x w ≡ Ok (u, b)
-    → (u ≡ shifted k t) × (b.node ≡ a.node) × (b.leaves ≡ a.leaves + k)
+    → (u ≡ shifted k t) × (b.node ≡ a.node) × (b.leaves ≡ raised k a.leaves)
 
 -- what the walk from o to a added to its counts doesn't pass a limit when it is added to those of w
 pub record HasRoomFor (o a w : Visit) : Type 0 where
