@@ -1,6 +1,8 @@
 -- Which blueprints are open, and what became of the others.
 use Rattle.std.proofs.Common.{◌≡◌, ◌∙◌, ℕ, ◌+◌, ◌≤◌, Bool, true, false, ◌||◌, cond, List, [], ◌∷◌, ◌++◌, Option, Some, None, Ok, Err}
-use Rattle.std.proofs.Common.{refl, sym, ap, subst, arith, true≢false}
+use Rattle.std.proofs.Common.{refl, sym, ap, subst, arith, true≢false, length, length-append, take}
+use Rattle.std.specs.Prelude.{MatchOption}
+use Rattle.std.proofs.Math.Seq.{take-append_seam}
 use Rattle.std.specs.Prelude.{is_some}
 use Rattle.std.specs.Borrow.{Bor}
 use Rattle.std.specs.List.{list_any}
@@ -65,6 +67,23 @@ neither : (a b : Bool) → a ≡ false → b ≡ false → (a || (b || false)) �
 neither true b h k = absurd (true≢false h)
 neither false true h k = absurd (true≢false k)
 neither false false h k = refl
+
+-- the last is closed
+pub popped_so : (o : Option Name) (old new above : List Name) (p : Name) → old ≡ above ++ p ∷ []
+    → MatchOption o ((old ≡ []) × (new ≡ [])) (λ last. old ≡ new ++ last ∷ []) → new ≡ above
+popped_so None old new above p is h =
+    let none = ap length (sym h.0 ∙ is) in
+    let many = length-append above (p ∷ []) in
+    absurd (omega (arith, none, many))
+popped_so (Some last) old new above p is h =
+    let whole : new ++ last ∷ [] ≡ above ++ p ∷ [] = sym h ∙ is in
+    let count = ap length whole in
+    let here = length-append new (last ∷ []) in
+    let there = length-append above (p ∷ []) in
+    let same : length new ≡ length above = omega (arith, count, here, there) in
+    sym (take-append_seam new (last ∷ []))
+    ∙ (λ i. take (same i) (whole i))
+    ∙ take-append_seam above (p ∷ [])
 
 -- a blueprint is read and opened
 pub known_opened : (ns : Space) (above more : List Name) (old new : List (Name × Bor Stamped))

@@ -26,4 +26,4 @@ returns-then-counting-clause-walk c f is =
     let same : Object c.in-Object.fragment ≡ Object f = sym c.in-Object.is ∙ c.get.ensures ∙ is in
     let fragment : c.in-Object.fragment ≡ f = cc in
     let counted = subst (λ (g : FragmentParts). leaf_on g s (visit_of c.enter.new.counts) ≡ Ok (Leaf s number g, visit_of c.count_leaf.new.counts)) fragment c.in_ok-number.ensures.walk in
-    (Leaf s number f, rw (c.in_ok-node.ensures.walk, counted) refl, c.if-counting)
+    (Leaf s number f, rw (c.in_ok-node.ensures.walk, counted) refl, search)

@@ -14,7 +14,7 @@ use Rattle.module_eval.specs.Walked.{path_in, term_with, tree_in}
 use Rattle.module_eval.proofs.Again.{run_of}
 use Rattle.module_eval.proofs.Charged.{on_ok, owed_more}
 use Rattle.module_eval.proofs.Joined.{means_any}
-use Rattle.module_eval.proofs.Known.{known_closed, known_kept, known_object}
+use Rattle.module_eval.proofs.Known.{known_closed, known_object, popped_so}
 use Rattle.module_eval.proofs.Ended.{after, begun, comes_more, ends_so, not_begun, popped, pushed, refused_so, walked_on}
 use Rattle.module_eval.specs.declared.pending.Pending.{Pending}
 use Rattle.module_eval.specs.declared.pending.Pending.TheVariants.{Under, First, Right}
@@ -147,7 +147,7 @@ visit_blueprint-returns-clause-known g t c counted =
     let all = c.visit_inside.new.memo.kept.entries in
     let more = c.in_ok-part.ensures.above ∙ c.in_ok-open.ensures.last in
     let closed = known_closed ns c.args.above.now c.visit_inside.new.above reads all c.args.path.now more (c.in_ok-part.ensures.built counted) c.in_ok-part.ensures.known in
-    let popped : c.pop.new.self ≡ c.args.above.now = search in
+    let popped = popped_so c.pop.result c.visit_inside.new.above c.pop.new.self c.args.above.now c.args.path.now more c.pop.ensures in
     subst (λ ps. AreKnown ns ps reads all) (sym popped) closed
 
 -- ---- pending nodes, one by one

@@ -5,9 +5,9 @@ use Rattle.module_eval.proofs.memo.Kept.again.Goals as goal
 
 pub returns-in_ok-new-in-Ok : goal.returns-in_ok-new-in-Ok
 returns-in_ok-new-in-Ok c ns path t kept run =
-    let number : c.args.first ≡ raised c.wrapping_sub.result c.args.self.first = omega (arith, c.wrapping_sub.ensures, c.ranges) in
+    let number = shift_to c.args.first c.args.self.first (omega (arith, c.ranges)) (omega (arith, c.ranges)) in
     rw c.in_ok-new-in-Ok.ensures
-    (again_means ns path c.args.self c.args.first c.wrapping_sub.result t c.in-Ok.table c.in_ok-again-in-Ok.again kept run c.in-Ok.is number c.in_ok-again-in-Ok.ensures)
+    (again_means ns path c.args.self c.args.first _ t c.in-Ok.table c.in_ok-again-in-Ok.again kept run c.in-Ok.is number c.in_ok-again-in-Ok.ensures)
 
 pub returns-in-Err : goal.returns-in-Err
 returns-in-Err c ns path t kept run =
