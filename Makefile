@@ -174,6 +174,7 @@ memory: build
 
 sweep: links
 	@tests/sweep.py $(LINK_CASES)
+	@tests/dags.py $(LINK_CASES)
 	@tests/texts.py $(LINK_CASES)
 	@tests/versions.py $(LINK_CASES)
 
@@ -182,6 +183,7 @@ bench: build links stores turns shares wires
 	@bench/objects.sh $(OMOSD)
 	@bench/operators.sh $(LINK_CASES)
 	@bench/evaluate.sh $(LINK_CASES)
+	@bench/sharing.sh $(LINK_CASES)
 	@bench/text.sh $(LINK_CASES)
 	@bench/publish.sh $(LINK_CASES)
 	@bench/store.sh $(STORE_CASES)

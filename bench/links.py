@@ -1,11 +1,15 @@
 #!/usr/bin/env python3
-"""Writes objects and a case of link_cases over them into the current folder, for bench/operators.sh
-and bench/evaluate.sh.
+"""Writes objects and a case of link_cases over them into the current folder, for bench/operators.sh,
+bench/evaluate.sh and bench/sharing.sh.
 
     bench/links.py TESTS merge TABLES          a merge of objects with 2,000 names each
     bench/links.py TESTS chain REFERENCES OPS  so many operators over open references, of 25,000 each
     bench/links.py TESTS objects COUNT         a merge of plain objects
     bench/links.py TESTS references COUNT      an object with so many relocations
+    bench/links.py TESTS doubled LEVELS        a blueprint doubled so often by overrides of itself
+    bench/links.py TESTS apart LEVELS          the same leaves, each use a blueprint of its own
+    bench/links.py TESTS variants COUNT        so many variants of a library of five objects
+    bench/links.py TESTS libraries COUNT       the same, each variant with a library of its own
 
 TESTS is the folder tests/, whose objects.py lays objects out.
 """
@@ -99,5 +103,65 @@ def references(count):
     write(published, [call(-5), CODE])
 
 
-KINDS = {"merge": merge, "chain": chain, "objects": plain, "references": references}
+def overrides(leaves, published):
+    """The last of so many leaves is called by all."""
+    put("/o", [("f", 0)], [(1, 4, 1, -4)], published)
+    write(published, [call((leaves - 1 - n) * len(CODE) - 5) for n in range(leaves)])
+
+
+def doubled(levels):
+    paths = ["/o"] + [f"/d/{k}" for k in range(levels - 1)] + ["/m"]
+    published = [
+        f"{path} (image (no_entry) (override {inner} {inner}))"
+        for inner, path in zip(paths, paths[1:])
+    ]
+    overrides(2**levels, published)
+
+
+def apart(levels):
+    published = []
+
+    def tree(depth, path):
+        below = ["/o", "/o"] if depth == 1 else [f"{path}/0", f"{path}/1"]
+        for inner in below if depth > 1 else []:
+            tree(depth - 1, inner)
+        published.append(f"{path} (image (no_entry) (override {' '.join(below)}))")
+
+    tree(levels, "/m")
+    overrides(2**levels, published)
+
+
+def library(path, published):
+    objects_ = merge_of([f"/o/{n}" for n in range(5)])
+    published.append(f"{path} (image (no_entry) {objects_})")
+
+
+def many(count, own):
+    """Variants that show one function of the library each, under a name of their own."""
+    published = []
+    for n in range(5):
+        put(f"/o/{n}", [(f"f{n}", 0)], [(1, 4, 1, -4)], published)
+    library("/lib", published)
+    for k in range(count):
+        path = f"/lib/{k}" if own else "/lib"
+        if own:
+            library(path, published)
+        inner = f"(rename f0 g{k} (show (f0) {path}))"
+        published.append(f"/v/{k} (image (no_entry) {inner})")
+    published.append(f"/m (image (no_entry) {merge_of([f'/v/{k}' for k in range(count)])})")
+    write(published, [call(-5)] * (5 * count))
+
+
+def variants(count):
+    many(count, own=False)
+
+
+def libraries(count):
+    many(count, own=True)
+
+
+KINDS = {
+    "merge": merge, "chain": chain, "objects": plain, "references": references,
+    "doubled": doubled, "apart": apart, "variants": variants, "libraries": libraries,
+}
 KINDS[sys.argv[2]](*map(int, sys.argv[3:]))

@@ -20,179 +20,9 @@ import random
 import sys
 
 import table
+from terms import OBJECTS, Leaf, One, Pair, Sites, rebuilt, wanted
 
-# size, alignment, exports, and the references of calls: field offset and name
-OBJECTS = {
-    "/lib": (16, 16, {"malloc": 0, "grab": 8}, [(9, "malloc")]),
-    "/new": (16, 16, {"malloc": 0}, []),
-    "/trace": (16, 16, {"malloc": 0}, [(1, "old_malloc")]),
-    "/user": (16, 16, {"print": 8}, [(1, "puts")]),
-    "/ab": (2, 1, {"b": 0, "a": 1}, []),
-}
 NAMES = ["malloc", "grab", "old_malloc", "puts", "print", "zip"]
-
-
-class Refused(Exception):
-    pass
-
-
-class Leaf:
-    def __init__(self, path):
-        self.path = path
-
-    def text(self):
-        return self.path
-
-    def number(self, nodes, leaves):
-        self.site = nodes()
-        self.leaf = leaves()
-        return [self]
-
-    def define(self, name):
-        exports = OBJECTS[self.path][2]
-        return (self.leaf, exports[name]) if name in exports else None
-
-    def state(self, leaf, k):
-        references = OBJECTS[self.path][3]
-        return ("open", references[k][1]) if leaf == self.leaf and k < len(references) else None
-
-    def references(self):
-        return [(self.leaf, k) for k in range(len(OBJECTS[self.path][3]))]
-
-    def names(self):
-        return set(OBJECTS[self.path][2])
-
-    def check(self):
-        pass
-
-
-class Pair:
-    def __init__(self, word, left, right):
-        self.word, self.left, self.right = word, left, right
-
-    def text(self):
-        return f"({self.word} {self.left.text()} {self.right.text()})"
-
-    def number(self, nodes, leaves):
-        self.site = nodes()
-        return self.left.number(nodes, leaves) + self.right.number(nodes, leaves)
-
-    def define(self, name):
-        first, second = (self.left, self.right) if self.word == "merge" else (self.right, self.left)
-        found = first.define(name)
-        return found if found is not None else second.define(name)
-
-    def state(self, leaf, k):
-        return self.left.state(leaf, k) or self.right.state(leaf, k)
-
-    def references(self):
-        return self.left.references() + self.right.references()
-
-    def names(self):
-        return self.left.names() | self.right.names()
-
-    def check(self):
-        self.left.check()
-        self.right.check()
-        if self.word == "merge":
-            both = [n for n in self.names() if self.left.define(n) and self.right.define(n)]
-            if both:
-                raise Refused(f"L5 /m {self.site} {min(both, key=str.encode)}")
-
-
-class One:
-    def __init__(self, word, words, inner):
-        self.word, self.words, self.inner = word, words, inner
-
-    def text(self):
-        words = " ".join(self.words)
-        return f"({self.word} {f'({words})' if self.word == 'show' else words} {self.inner.text()})"
-
-    def number(self, nodes, leaves):
-        self.site = nodes()
-        return self.inner.number(nodes, leaves)
-
-    def define(self, name):
-        inner, words = self.inner, self.words
-        if self.word == "rename":
-            if inner.define(words[0]) is None:
-                return inner.define(name)
-            if name == words[1]:
-                return inner.define(words[0])
-            return None if name == words[0] else inner.define(name)
-        if self.word in ("restrict", "hide"):
-            return None if name == words[0] else inner.define(name)
-        if self.word == "show":
-            return inner.define(name) if name in words else None
-        if self.word == "copy_as" and name == words[1]:
-            return inner.define(words[0])
-        return inner.define(name)
-
-    def state(self, leaf, k):
-        state = self.inner.state(leaf, k)
-        if state is None or state[0] == "bound":
-            return state
-        name, words = state[1], self.words
-        if self.word == "rename" and name == words[0]:
-            return ("open", words[1])
-        if self.word in ("freeze", "hide") and name == words[0]:
-            return ("bound", self.inner.define(name))
-        if self.word == "show" and name not in words and self.inner.define(name):
-            return ("bound", self.inner.define(name))
-        return state
-
-    def references(self):
-        return self.inner.references()
-
-    def names(self):
-        return self.inner.names() | set(self.words)
-
-    def check(self):
-        self.inner.check()
-        inner, words = self.inner, self.words
-        if self.word == "rename":
-            opened = any(inner.state(*r) == ("open", words[0]) for r in inner.references())
-            if inner.define(words[0]) is None and not opened:
-                raise Refused(f"L6 /m {self.site} {words[0]}")
-            if words[0] != words[1] and inner.define(words[0]) and inner.define(words[1]):
-                raise Refused(f"L8 /m {self.site} {words[1]}")
-            return
-        for name in words if self.word == "show" else words[:1]:
-            if inner.define(name) is None:
-                raise Refused(f"L7 /m {self.site} {name}")
-        if self.word == "copy_as" and inner.define(words[1]):
-            raise Refused(f"L8 /m {self.site} {words[1]}")
-
-
-def counter():
-    numbers = itertools.count()
-    return lambda: next(numbers)
-
-
-def wanted(term):
-    """What a link of the term at 0x400000 must answer, as a column of the table of cases."""
-    leaves = term.number(counter(), counter())
-    try:
-        term.check()
-    except Refused as refusal:
-        return f"line refused {refusal}"
-    places, end = [], 0
-    for leaf in leaves:
-        size, align = OBJECTS[leaf.path][:2]
-        place = -(-end // align) * align
-        places.append(place)
-        end = place + size
-    wishes = [f"size {4096 * (1 + -(-end // 4096))}"]
-    for leaf, k in term.references():
-        kind, value = term.state(leaf, k)
-        target = value if kind == "bound" else term.define(value)
-        if target is None:
-            return f"line refused L11 {leaf} {k} {value}"
-        field = places[leaf] + OBJECTS[leaves[leaf].path][3][k][0]
-        distance = places[target[0]] + target[1] - field - 4
-        hexes = (distance % 2**32).to_bytes(4, "little").hex(" ")
-        wishes.append(f"at {0x400000 + field:x} {hexes}")
-    return " & ".join(wishes)
 
 
 def ones(inner, names):
@@ -205,15 +35,6 @@ def ones(inner, names):
     for count in range(3):
         for words in itertools.permutations(names, count):
             yield One("show", list(words), inner)
-
-
-def rebuilt(term):
-    """The same term anew, since a term used twice is numbered twice."""
-    if isinstance(term, Leaf):
-        return Leaf(term.path)
-    if isinstance(term, Pair):
-        return Pair(term.word, rebuilt(term.left), rebuilt(term.right))
-    return One(term.word, term.words, rebuilt(term.inner))
 
 
 def some(random_, size):
@@ -229,7 +50,7 @@ def some(random_, size):
 def pair(random_, left, right):
     """Two expressions joined: mostly by an override where a merge would be refused."""
     term = Pair("merge", left, right)
-    term.number(counter(), counter())
+    term.number(Sites())
     shared = any(left.define(name) and right.define(name) for name in left.names())
     often, seldom = ("override", "merge") if shared else ("merge", "override")
     return Pair(often if random_.random() < 0.9 else seldom, left, right)
@@ -237,7 +58,7 @@ def pair(random_, left, right):
 
 def one(random_, inner):
     """An operator on an expression."""
-    inner.number(counter(), counter())
+    inner.number(Sites())
     defined = sorted(name for name in inner.names() if inner.define(name))
     states = [inner.state(*reference) for reference in inner.references()]
     opened = sorted({name for kind, name in states if kind == "open"})

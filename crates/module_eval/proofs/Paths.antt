@@ -2,6 +2,7 @@
 use Rattle.std.proofs.Common.{◌≡◌, ℕ, zero, suc, Bool, true, false, List, [], ◌∷◌, ◌++◌, Option, Some, None, Ok, Err}
 use Rattle.std.proofs.Common.{◌-◌, ◌≤◌, length, length-append, cond, refl, sym, ap, ◌∙◌, arith}
 use Rattle.std.specs.Option.{option_map}
+use Rattle.std.specs.Prelude.{Result}
 use Rattle.omos_base.specs.declared.fault.Fault.{Fault}
 use Rattle.omos_base.specs.declared.fault.Fault.TheVariants.{Refused, NoMemory}
 use Rattle.omos_model.specs.FragmentParts.{FragmentParts}
@@ -10,7 +11,8 @@ use Rattle.omos_model.specs.NameLists.{is_among}
 use Rattle.omos_model.specs.Namespace.{Space, look_up}
 use Rattle.omos_model.specs.Term.{Term}
 use Rattle.omos_model.specs.Tree.{Tree}
-use Rattle.omos_model.specs.Expansion.{Source, Object, Blueprint, Visited, Visitor, and_then, add_read, begin_path, expand, here, leaf, nested, source, source_of, visit}
+use Rattle.omos_model.specs.Expansion.{Source, Object, Blueprint, add_read, here, source, source_of}
+use Rattle.module_share.specs.Trails.{Trail, Trailer, and_on, begin_path_on, expand_on, leaf_on, nested_on, visit_on}
 use Rattle.omos_model.specs.declared.entry.Entry.{Entry}
 use Rattle.omos_model.specs.declared.entry.Stamped.{Stamped}
 use Rattle.omos_model.specs.declared.refusal.Refusal.{Refusal}
@@ -25,34 +27,34 @@ use Rattle.module_eval.specs.declared.part.Part.{Part}
 
 module _ (ns : Name → Option Source) (above : List Name) (counted : Bool) (at p : Name) (v : Visit) where
   pub none_at : (room : ℕ) → ns p ≡ None
-      → expand ns room above counted at p v ≡ Err (NoEntry (here at v) p)
-  unfolding expand
+      → expand_on ns room above counted at p v ≡ Err (NoEntry (here at v) p, v)
+  unfolding expand_on
   none_at zero h = rw h refl
   none_at (suc room) h = rw h refl
 
   pub object_at : (room : ℕ) (f : FragmentParts) → ns p ≡ Some (Object f)
-      → expand ns room above counted at p v ≡ and_then (begin_path counted at (add_read p v)) (leaf f)
-  unfolding expand
+      → expand_on ns room above counted at p v ≡ and_on (begin_path_on counted at (add_read p v)) (leaf_on f)
+  unfolding expand_on
   object_at zero f h = rw h refl
   object_at (suc room) f h = rw h refl
 
   pub cycle_at : (room : ℕ) (x : Tree) → ns p ≡ Some (Blueprint x) → is_among above p ≡ true
-      → expand ns room above counted at p v ≡ Err (Cycle (here at v) p)
-  unfolding expand
+      → expand_on ns room above counted at p v ≡ Err (Cycle (here at v) p, v)
+  unfolding expand_on
   cycle_at zero x h e = rw (h, e) refl
   cycle_at (suc room) x h e = rw (h, e) refl
 
   pub deep_at : (room : ℕ) (x : Tree) → ns p ≡ Some (Blueprint x) → is_among above p ≡ false
-      → room ≡ 0 → expand ns room above counted at p v ≡ Err (TooDeep (here at v) p)
-  unfolding expand
+      → room ≡ 0 → expand_on ns room above counted at p v ≡ Err (TooDeep (here at v) p, v)
+  unfolding expand_on
   deep_at zero x h e z = rw (h, e) refl
   deep_at (suc room) x h e z = absurd (omega arith)
 
   pub opened_at : (room left : ℕ) (x : Tree) → ns p ≡ Some (Blueprint x)
       → is_among above p ≡ false → room ≡ suc left
-      → expand ns room above counted at p v
-      ≡ and_then (begin_path counted at (add_read p v)) (λ s. nested (visit p (expand ns left (above ++ p ∷ []) true p) x))
-  unfolding expand
+      → expand_on ns room above counted at p v
+      ≡ and_on (begin_path_on counted at (add_read p v)) (λ s. nested_on (visit_on p (expand_on ns left (above ++ p ∷ []) true p) x))
+  unfolding expand_on
   opened_at room left x h e r = rw (r, h, e) refl
 
 -- what the code found
@@ -66,65 +68,67 @@ pub source_none : (ns : Space) (p : Name) → None ≡ look_up ns p → source n
 source_none ns p h = sym (ap (option_map (λ (s : Stamped). source_of s.entry)) h)
 
 -- a refusal on the way is the walk's
-pub err_on_step : (f : Fault Refusal) (at : Name) (walk : Visited Site)
-    (more : Site → Visitor Term) (v w : Counts) → StepsToNode (Err f) at walk v
-    → Walked (Err f) (and_then walk more) w
-err_on_step (Refused x) at walk more v w h = rw h refl
-err_on_step NoMemory at walk more v w h = tt
+pub err_on_step : (f : Fault Refusal) (at : Name) (walk : Trail Site)
+    (more : Site → Trailer Term) (counting : Bool) (w : Counts) → StepsToNode (Err f) at walk w
+    → Walked counting (Err f) (and_on walk more) w
+err_on_step (Refused x) at walk more counting w h = rw h refl
+err_on_step NoMemory at walk more counting w h = tt
 
 -- what is told is what the walk is refused for
-pub told : (f : Fault Refusal) (x : Refusal) (walk : Visited Term) (w : Counts) → Tells f x
-    → walk ≡ Err x → Walked (Err f) walk w
-told (Refused y) x walk w h k = k ∙ ap Err (sym h)
-told NoMemory x walk w h k = tt
+pub told : (counting : Bool) (f : Fault Refusal) (x : Refusal) (walk : Trail Term) (w : Counts)
+    → Tells f x → walk ≡ Err (x, visit_of w) → Walked counting (Err f) walk w
+told counting (Refused y) x walk w h k = k ∙ ap (λ z. Err (z, visit_of w)) (sym h)
+told counting NoMemory x walk w h k = tt
 
-pub err_on_walk : (f : Fault Refusal) (walk : Visited Term) (more : Term → Visitor Term)
-    (v w : Counts) → Walked (Err f) walk v → Walked (Err f) (and_then walk more) w
-err_on_walk (Refused x) walk more v w h = rw h refl
-err_on_walk NoMemory walk more v w h = tt
+pub err_on_walk : (f : Fault Refusal) (walk : Trail Term) (more : Term → Trailer Term)
+    (counting : Bool) (w : Counts) → Walked counting (Err f) walk w
+    → Walked counting (Err f) (and_on walk more) w
+err_on_walk (Refused x) walk more counting w h = rw h refl
+err_on_walk NoMemory walk more counting w h = tt
 
 -- ---- a blueprint
 
 -- it is refused for what bars it
 pub barred : (ns : Name → Option Source) (slice above : List Name) (counted : Bool) (at p : Name)
-    (v : Visit) (t : Tree) (f : Fault Refusal) (w : Counts) → slice ≡ above
-    → ns p ≡ Some (Blueprint t) → Bars (Some f) slice at p v.node
-    → Walked (Err f) (expand ns (32 - length above) above counted at p v) w
-barred ns slice above counted at p v t f w same there h =
+    (t : Tree) (f : Fault Refusal) (counting : Bool) (w : Counts) → slice ≡ above
+    → ns p ≡ Some (Blueprint t) → Bars (Some f) slice at p (visit_of w).node
+    → Walked counting (Err f) (expand_on ns (32 - length above) above counted at p (visit_of w)) w
+barred ns slice above counted at p t f counting w same there h =
     let k = rw same at h in
     go (is_among above p) refl k.0 k.1
   where
+    v : Visit
+    v = visit_of w
+
     go : (c : Bool) → is_among above p ≡ c
         → Tells f (cond c (Cycle (here at v) p) (TooDeep (here at v) p))
         → (is_among above p ≡ false → 32 ≤ length above)
-        → Walked (Err f) (expand ns (32 - length above) above counted at p v) w
+        → Walked counting (Err f) (expand_on ns (32 - length above) above counted at p v) w
     go true e d far =
-        told f (Cycle (here at v) p) _ w d (cycle_at ns above counted at p v (32 - length above) t there e)
+        told counting f (Cycle (here at v) p) _ w d (cycle_at ns above counted at p v (32 - length above) t there e)
     go false e d far =
         let deep = far e in
-        told f (TooDeep (here at v) p) _ w d (deep_at ns above counted at p v (32 - length above) t there e (omega (arith, deep)))
+        told counting f (TooDeep (here at v) p) _ w d (deep_at ns above counted at p v (32 - length above) t there e (omega (arith, deep)))
 
 module _ (ns : Space) (slice above : List Name) (counted : Bool) (at p : Name) (v : Visit) (x : Tree)
     (there : source ns p ≡ Some (Blueprint x)) (same : slice ≡ above)
     (free : Bars None slice at p v.node) where
   pub opened : path_in ns above counted at p v
-      ≡ and_then (begin_path counted at (add_read p v)) (λ s. nested (tree_in ns (above ++ p ∷ []) p x))
+      ≡ and_on (begin_path_on counted at (add_read p v)) (λ s. nested_on (tree_in ns (above ++ p ∷ []) p x))
   opened =
       let h = rw same at free in
       let few = h.1 in
       opened_at (source ns) above counted at p v (32 - length above) (32 - length (above ++ p ∷ [])) x there h.0
       (omega (arith, few, length-append above (p ∷ [])))
 
-  pub refused_inside : (f : Fault Refusal) (s : Site) (w y z : Counts)
-      → begin_path counted at (add_read p v) ≡ Ok (s, visit_of w)
-      → Walked (Err f) (tree_in ns (above ++ p ∷ []) p x (record (visit_of w) { node = 0 })) y
-      → Walked (Err f) (path_in ns above counted at p v) z
-  refused_inside f s w y z begun h =
-      rw (opened, begun)
-      (err_on_walk f (tree_in ns (above ++ p ∷ []) p x (record (visit_of w) { node = 0 })) (λ t u. Ok (t, record u { node = w.node })) y z h)
+  pub walked_inside : (counting : Bool) (r : Result Part (Fault Refusal)) (s : Site) (w y : Counts)
+      → begin_path_on counted at (add_read p v) ≡ Ok (s, visit_of w)
+      → Walked counting r (nested_on (tree_in ns (above ++ p ∷ []) p x) (visit_of w)) y
+      → Walked counting r (path_in ns above counted at p v) y
+  walked_inside counting r s w y begun h = rw (opened, begun) h
 
-  pub walked_inside : (part : Part) (s : Site) (w y : Counts)
-      → begin_path counted at (add_read p v) ≡ Ok (s, visit_of w)
-      → Walked (Ok part) (tree_in ns (above ++ p ∷ []) p x (record (visit_of w) { node = 0 })) y
-      → Walked (Ok part) (path_in ns above counted at p v) (record y { node = w.node })
-  walked_inside part s w y begun h = (h.0, rw (opened, begun, h.1) refl, h.2)
+-- nodes with numbers of their own
+pub walked_nested : (counting : Bool) (part : Part) (x : Trailer Term) (v : Visit) (y : Counts)
+    → Walked counting (Ok part) (x (record v { node = 0 })) y
+    → Walked counting (Ok part) (nested_on x v) (record y { node = v.node })
+walked_nested counting part x v y h = (h.0, rw h.1 refl, h.2)

@@ -1,11 +1,13 @@
 //! The leaf of an object's path.
 
 ghost use Rattle.std.specs.Prelude.{◌≡◌, ◌+◌, ◌≤◌, true, OnOk, Some};
-ghost use Rattle.omos_model.specs.Expansion.{add_read, and_then, begin_path, leaf};
+ghost use Rattle.omos_model.specs.Expansion.{add_read};
+ghost use Rattle.module_share.specs.Trails.{and_on, begin_path_on, leaf_on};
 ghost use Rattle.omos_model.specs.FragmentParts.{FragmentParts};
 ghost use Rattle.module_table.specs.Stands.{IsObject};
 ghost use Rattle.module_eval.specs.Counted.{AreCounted, visit_of};
 ghost use Rattle.omos_model.specs.Namespace.{Space, look_up};
+ghost use Rattle.module_eval.specs.Costs.{IsReadAlone, read_of};
 ghost use Rattle.module_eval.specs.Found.{AreFound};
 ghost use Rattle.module_eval.specs.Walked.{Walked};
 
@@ -19,6 +21,7 @@ use omos_model::{Entry, Stamped};
 /// The object of a path as a leaf, of which no table is made yet.
 #[inline(never)]
 pub fn visit_object<'a>(
+    counting: bool,
     counted: bool,
     at: &PathName,
     path: &'a PathName,
@@ -27,19 +30,26 @@ pub fn visit_object<'a>(
 ) -> Result<Part, Stop>
     requires object { IsObject found.now.entry }
     requires counted { AreCounted counts.old }
-    ensures walk { (f : FragmentParts) → found.now.entry ≡ Entry.Object f → Walked result
-        (and_then (begin_path counted at.now (add_read path.now (visit_of counts.old))) (leaf f))
-        counts.new }
+    ensures walk { (f : FragmentParts) → found.now.entry ≡ Entry.Object f → Walked counting result
+        (and_on (begin_path_on counted at.now (add_read path.now (visit_of counts.old)))
+        (leaf_on f)) counts.new }
     ensures counted { AreCounted counts.new }
     ensures least { counts.old.nodes ≤ counts.new.nodes }
     ensures more { counted ≡ true → OnOk result (counts.new.nodes ≡ counts.old.nodes + 1) }
     ensures found { OnOk result ((ns : Space) → look_up ns path.now ≡ Some found.now
         → AreFound ns counts.old.read.entries → AreFound ns counts.new.read.entries) }
+    ensures grown { (ns : Space) → read_of ns counts.old.read.entries
+        ≤ read_of ns counts.new.read.entries }
+    ensures alone { OnOk result
+        (IsReadAlone counts.old.read.entries counts.new.read.entries path.now) }
 {
     let Entry::Object(fragment) = found.entry.get() else {
         unreachable!()
     };
     let node = enter(counted, at, path, found, counts)?;
     let number = count_leaf(at, node, fragment, counts)?;
+    if counting {
+        return Ok(Part::Counted);
+    }
     Ok(Part::Leaf(Leaf::of(number, found.entry.twin()?)))
 }

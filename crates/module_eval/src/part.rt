@@ -1,7 +1,7 @@
 //! What is known of a part of a term: its table, or why one of its operators is refused, or the
 //! leaf that it is.
 
-ghost use Rattle.std.specs.Prelude.{◌≡◌, Err, IfOk, Option};
+ghost use Rattle.std.specs.Prelude.{◌≡◌, ◌+◌, ◌≤◌, Bool, true, Err, IfOk, Option};
 ghost use Rattle.omos_model.specs.Expansion.{site_of};
 ghost use Rattle.omos_model.specs.Term.{Term, Merge, Override, Apply};
 ghost use Rattle.omos_model.specs.declared.refusal.Refusal.{Refusal as Cause};
@@ -15,11 +15,12 @@ use crate::leaf::Leaf;
 use crate::node::site;
 use crate::operator::{Operator, operate};
 use crate::table_box::TableBox;
-use module_table::{Table, TableFault};
+use module_table::{Steps, Table, TableFault};
 use omos_base::{Fault, NoMemory, PathName};
 use omos_model::{Refusal, Site};
 use sqlite_items::Boxed;
 use std::alloc::Global;
+use std::sync::ledger::Ledger;
 
 /// A part of a term, all of whose operators were applied up to the first that is refused. It is
 /// small, since one stands at each depth of a walk.
@@ -31,6 +32,8 @@ pub enum Part {
     Failed(Boxed<Refusal>),
     /// An object, of which a merge needs no table where it stands on the right.
     Leaf(Leaf),
+    /// A part that was only counted, where the walk counts.
+    Counted,
 }
 
 /// How two modules are put together.
@@ -59,9 +62,9 @@ fn failed(
     node: u32,
     fault: Fault<TableFault>,
 ) -> Result<Part, NoMemory>
-    ensures { (t : Term) (refused : Option Cause)
+    ensures { (counting : Bool) (t : Term) (refused : Option Cause)
         → Answers (Err fault) (site_of at.now node) t refused
-        → IfOk result (λ part. MeansWhere part t refused) }
+        → IfOk result (λ part. MeansWhere counting part t refused) }
 {
     match fault {
         Fault::Refused(fault) => {
@@ -81,8 +84,9 @@ fn answered(
     node: u32,
     answer: Result<Table, Fault<TableFault>>,
 ) -> Result<Part, NoMemory>
-    ensures { (t : Term) (refused : Option Cause) → Answers answer (site_of at.now node) t refused
-        → IfOk result (λ part. MeansWhere part t refused) }
+    ensures { (counting : Bool) (t : Term) (refused : Option Cause)
+        → Answers answer (site_of at.now node) t refused
+        → IfOk result (λ part. MeansWhere counting part t refused) }
 {
     match answer {
         Ok(table) => Ok(Part::Built(TableBox::new(alloc, table)?)),
@@ -90,96 +94,136 @@ fn answered(
     }
 }
 
-/// The table of a part, or its refusal.
-pub fn built(alloc: Global, part: Part) -> Result<Result<TableBox, Boxed<Refusal>>, NoMemory>
+/// The table of a part, or its refusal, or None where it was only counted.
+pub fn built(
+    alloc: Global,
+    part: Part,
+) -> Result<Option<Result<TableBox, Boxed<Refusal>>>, NoMemory>
     ensures { IfOk result (λ built. IsBuilt built part) }
 {
     match part {
-        Part::Built(table) => Ok(Ok(table)),
-        Part::Failed(refusal) => Ok(Err(refusal)),
-        Part::Leaf(leaf) => Ok(Ok(TableBox::new(alloc, leaf.table(alloc)?)?)),
+        Part::Built(table) => Ok(Some(Ok(table))),
+        Part::Failed(refusal) => Ok(Some(Err(refusal))),
+        Part::Leaf(leaf) => Ok(Some(Ok(TableBox::new(alloc, leaf.table(alloc)?)?))),
+        Part::Counted => Ok(None),
     }
 }
 
 /// Both modules together.
 #[inline(never)]
-pub fn merge(
+pub fn merge<L: Ledger>(
     alloc: Global,
+    counting: bool,
     at: &PathName,
     node: u32,
     left: Part,
     right: Part,
+    steps: &mut Steps<L>,
 ) -> Result<Part, NoMemory>
-    ensures { (l r : Term) → Means left l → Means right r
-        → IfOk result (λ part. Means part (Merge (site_of at.now node) l r)) }
+    ensures meant { (l r : Term) → Means counting left l → Means counting right r
+        → IfOk result (λ part. Means counting part (Merge (site_of at.now node) l r)) }
+    ensures cost { steps.new ≤ steps.old + 1 }
+    ensures still { counting ≡ true → steps.new ≡ steps.old }
 {
+    if counting {
+        return Ok(Part::Counted);
+    }
     let mut table = match built(alloc, left)? {
-        Ok(table) => table,
-        Err(refusal) => return Ok(Part::Failed(refusal)),
+        Some(Ok(table)) => table,
+        Some(Err(refusal)) => return Ok(Part::Failed(refusal)),
+        None => return Ok(Part::Counted),
     };
     match right {
         Part::Built(right) => {
-            let answer = Table::merge(table.into_inner(), right.into_inner());
+            let answer = Table::merge(table.into_inner(), right.into_inner(), steps);
             answered(alloc, at, node, answer)
         }
         Part::Failed(refusal) => Ok(Part::Failed(refusal)),
-        Part::Leaf(leaf) => match table.merge_leaf(leaf) {
+        Part::Leaf(leaf) => match table.merge_leaf(leaf, steps) {
             Ok(()) => Ok(Part::Built(table)),
             Err(fault) => failed(alloc, at, node, fault),
         },
+        Part::Counted => Ok(Part::Counted),
     }
 }
 
 /// Both modules, where the right one's definitions win.
-fn override_by(alloc: Global, left: Part, right: Part) -> Result<Part, NoMemory>
-    ensures { (s : Place) (l r : Term) → Means left l → Means right r
-        → IfOk result (λ part. Means part (Override s l r)) }
+fn override_by<L: Ledger>(
+    alloc: Global,
+    counting: bool,
+    left: Part,
+    right: Part,
+    steps: &mut Steps<L>,
+) -> Result<Part, NoMemory>
+    ensures meant { (s : Place) (l r : Term) → Means counting left l → Means counting right r
+        → IfOk result (λ part. Means counting part (Override s l r)) }
+    ensures cost { steps.new ≤ steps.old + 1 }
+    ensures still { counting ≡ true → steps.new ≡ steps.old }
 {
+    if counting {
+        return Ok(Part::Counted);
+    }
     let left = match built(alloc, left)? {
-        Ok(table) => table,
-        Err(refusal) => return Ok(Part::Failed(refusal)),
+        Some(Ok(table)) => table,
+        Some(Err(refusal)) => return Ok(Part::Failed(refusal)),
+        None => return Ok(Part::Counted),
     };
     let right = match built(alloc, right)? {
-        Ok(table) => table,
-        Err(refusal) => return Ok(Part::Failed(refusal)),
+        Some(Ok(table)) => table,
+        Some(Err(refusal)) => return Ok(Part::Failed(refusal)),
+        None => return Ok(Part::Counted),
     };
-    let table = Table::override_by(left.into_inner(), right.into_inner())?;
+    let table = Table::override_by(left.into_inner(), right.into_inner(), steps)?;
     Ok(Part::Built(TableBox::new(alloc, table)?))
 }
 
 /// Both modules, joined so.
 #[inline(never)]
-pub fn combine(
+pub fn combine<L: Ledger>(
     alloc: Global,
+    counting: bool,
     join: Join,
     at: &PathName,
     node: u32,
     left: Part,
     right: Part,
+    steps: &mut Steps<L>,
 ) -> Result<Part, NoMemory>
-    ensures { (l r : Term) → Means left l → Means right r
-        → IfOk result (λ part. Means part (term_with join (site_of at.now node) l r)) }
+    ensures meant { (l r : Term) → Means counting left l → Means counting right r
+        → IfOk result (λ part. Means counting part (term_with join (site_of at.now node) l r)) }
+    ensures cost { steps.new ≤ steps.old + 1 }
+    ensures still { counting ≡ true → steps.new ≡ steps.old }
 {
     match join {
-        Join::Merge => merge(alloc, at, node, left, right),
-        Join::Override => override_by(alloc, left, right),
+        Join::Merge => merge(alloc, counting, at, node, left, right, steps),
+        Join::Override => override_by(alloc, counting, left, right, steps),
     }
 }
 
 /// The module under an operator.
 #[inline(never)]
-pub fn apply(
+pub fn apply<L: Ledger>(
     alloc: Global,
+    counting: bool,
     at: &PathName,
     node: u32,
     operator: Operator<'_>,
     part: Part,
+    steps: &mut Steps<L>,
 ) -> Result<Part, NoMemory>
-    ensures { (t : Term) → Means part t
-        → IfOk result (λ p. Means p (Apply (site_of at.now node) (op_of operator.entry) t)) }
+    ensures meant { (t : Term) → Means counting part t
+        → IfOk result (λ p. Means counting p (Apply (site_of at.now node) (op_of operator.entry) t)) }
+    ensures cost { steps.new ≤ steps.old + 1 }
+    ensures still { counting ≡ true → steps.new ≡ steps.old }
 {
+    if counting {
+        return Ok(Part::Counted);
+    }
     match built(alloc, part)? {
-        Ok(table) => answered(alloc, at, node, operate(operator, table.into_inner())),
-        Err(refusal) => Ok(Part::Failed(refusal)),
+        Some(Ok(table)) => {
+            answered(alloc, at, node, operate(operator, table.into_inner(), steps))
+        }
+        Some(Err(refusal)) => Ok(Part::Failed(refusal)),
+        None => Ok(Part::Counted),
     }
 }

@@ -1,0 +1,33 @@
+-- From a walk to what expansion gives, and what it has read.
+use Rattle.std.proofs.Common.{◌≡◌, ◌∙◌, ℕ, ◌+◌, ◌≤◌, false, Result, Ok, Err, List, sym, ap, subst}
+use Rattle.omos_base.specs.declared.fault.Fault.{Fault}
+use Rattle.omos_base.specs.declared.fault.Fault.TheVariants.{Refused, NoMemory}
+use Rattle.omos_model.specs.Expansion.{expansion}
+use Rattle.omos_model.specs.Names.{Name}
+use Rattle.omos_model.specs.Namespace.{Space}
+use Rattle.omos_model.specs.Term.{Term}
+use Rattle.omos_model.specs.declared.refusal.Refusal.{Refusal}
+use Rattle.omos_model.specs.declared.visit.Visit.{Visit}
+use Rattle.module_share.specs.Trails.{Trail, front, trail, visited}
+use Rattle.module_share.proofs.Fronts.{front_law}
+use Rattle.module_eval.specs.Costs.{IsPaid, operators_of, read_of}
+use Rattle.module_eval.specs.Counted.{visit_of}
+use Rattle.module_eval.specs.Walked.{Expands, Walked}
+use Rattle.module_eval.specs.declared.counts.Counts.{Counts}
+use Rattle.module_eval.specs.declared.part.Part.{Part}
+
+pub expanded_so : (ns : Space) (path : Name) (result : Result Part (Fault Refusal)) (new : Counts)
+    → Walked false result (trail ns path) new → Expands result (expansion ns path) new
+expanded_so ns path (Ok part) new h = (h.0, sym (front_law ns path) ∙ ap front h.1, h.2)
+expanded_so ns path (Err (Refused x)) new h = sym (front_law ns path) ∙ ap front h
+expanded_so ns path (Err NoMemory) new h = tt
+
+pub paid : (ns : Space) (path : Name) (result : Result Part (Fault Refusal)) (new : Counts)
+    (old_steps new_steps : ℕ) → Walked false result (trail ns path) new
+    → new_steps ≤ old_steps + read_of ns new.read.entries
+    → IsPaid result old_steps new_steps ns path
+paid ns path (Ok part) new old_steps new_steps h few =
+    subst (λ (w : Trail Term). new_steps ≤ old_steps + operators_of ns (visited w).read) (sym h.1) few
+paid ns path (Err (Refused x)) new old_steps new_steps h few =
+    subst (λ (w : Trail Term). new_steps ≤ old_steps + operators_of ns (visited w).read) (sym h) few
+paid ns path (Err NoMemory) new old_steps new_steps h few = tt

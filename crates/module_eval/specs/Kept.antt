@@ -1,0 +1,41 @@
+-- Tables of blueprints that are kept for further uses.
+use Rattle.std.specs.Prelude.{◌≡◌, ℕ, List, [], ◌∷◌, None, Some, Result, Ok, Err}
+use Rattle.std.specs.List.{AllByRecursion}
+use Rattle.omos_model.specs.Expansion.{Blueprint, source}
+use Rattle.omos_model.specs.FirstRefusal.{first_refusal}
+use Rattle.omos_model.specs.Names.{Name}
+use Rattle.omos_model.specs.Namespace.{Space}
+use Rattle.omos_model.specs.Term.{Term}
+use Rattle.omos_model.specs.Tree.{Tree}
+use Rattle.omos_model.specs.declared.refusal.Refusal.{Refusal}
+use Rattle.omos_model.specs.declared.visit.Visit.{Visit}
+use Rattle.module_share.specs.Places.{tree_at}
+use Rattle.module_table.specs.Stands.{StandsFor}
+use Rattle.module_table.specs.TableParts.{TableParts}
+use Rattle.module_eval.specs.declared.memo.Kept.{Kept}
+
+-- somewhere the blueprint's expression is expanded to this term, its first leaf having this number
+pub record IsRun (ns : Space) (path : Name) (first : ℕ) (t : Term) : Type 0 where
+  pub tree : Tree
+  pub room : ℕ
+  pub above : List Name
+  pub start : Visit
+  pub after : Visit
+  pub there : source ns path ≡ Some (Blueprint tree)
+  pub node : start.node ≡ 0
+  pub leaves : start.leaves ≡ first
+  pub expanded : tree_at (source ns) room above path tree start ≡ Ok (t, after)
+
+-- a table of the term, in which nothing is refused, or its first refusal
+abbrev pub StandsOr : Result TableParts Refusal → Term → Type 0
+StandsOr (Ok table) t = StandsFor table t × (first_refusal t ≡ None)
+StandsOr (Err x) t = first_refusal t ≡ Some x
+
+-- what is kept is of such a term
+pub record IsKept (ns : Space) (path : Name) (kept : Kept) : Type 0 where
+  pub term : Term
+  pub run : IsRun ns path kept.first term
+  pub stands : StandsOr kept.built term
+
+pub record AreKept (ns : Space) (all : List (Name × Kept)) : Type 0 where
+  pub each : AllByRecursion (λ e. IsKept ns e.0 e.1) all

@@ -1,0 +1,4 @@
+pub mod Shifted
+pub mod Instances
+pub mod Places
+pub mod Trails

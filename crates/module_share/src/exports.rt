@@ -1,0 +1,44 @@
+//! The definitions of a further table.
+
+ghost use Rattle.std.specs.Prelude.{◌≡◌, if◌then◌else◌, IfOk, OnOk, Some};
+ghost use Rattle.std.specs.Option.{option_map};
+ghost use Rattle.omos_model.specs.Names.{Name, same_name};
+ghost use Rattle.module_table.specs.TableParts.{held};
+ghost use Rattle.module_share.specs.Shifted.{shifted_target};
+
+use crate::numbers;
+use indexmap::IndexMap;
+use omos_base::{NoMemory, SymName};
+use omos_model::Target;
+use std::alloc::Global;
+
+/// Puts one definition, whose name is shared.
+fn put(
+    into: &mut IndexMap<SymName, Target>,
+    name: &SymName,
+    target: Target,
+    shift: u32,
+) -> Result<(), NoMemory>
+    ensures { OnOk result ((n : Name) → held into.new.entries n
+        ≡ (if same_name name.now n then Some (shifted_target shift target)
+        else held into.old.entries n)) }
+{
+    into.insert(name.copy()?, numbers::target(target, shift))?;
+    Ok(())
+}
+
+/// The definitions, in leaves of raised numbers.
+pub fn raised(
+    alloc: Global,
+    from: &IndexMap<SymName, Target>,
+    shift: u32,
+) -> Result<IndexMap<SymName, Target>, NoMemory>
+    ensures { IfOk result (λ m. (n : Name) → held m.entries n
+        ≡ option_map (shifted_target shift) (held from.now.entries n)) }
+{
+    let mut into = IndexMap::with_capacity(alloc, from.len())?;
+    'entries: for (name, target) in from {
+        put(&mut into, name, *target, shift)?;
+    }
+    Ok(into)
+}
