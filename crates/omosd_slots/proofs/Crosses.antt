@@ -33,12 +33,13 @@ use Rattle.std.proofs.rt.Memory.TheSendSync as memory_crosses
 use Rattle.std.proofs.sync.Arc.TheSendSync as arc_crosses
 use Rattle.std.proofs.vec.Vec.TheSendSync as vec_crosses
 use Rattle.name_tree.specs.contracts.snap.Snap as snap
+use Rattle.name_tree.specs.contracts.snap.Snap.TheInside as inside
+use Rattle.name_tree.specs.contracts.few.Few as few
+use Rattle.name_tree.specs.contracts.root.Root as root
+use Rattle.name_tree.proofs.few.Few.TheSendSync as few_crosses
 use Rattle.link_model.specs.contracts.linked.Linked as linked
-use Rattle.history_book.specs.contracts.step.Step as step
-use Rattle.history_book.specs.contracts.step.Note as note
-use Rattle.history_book.specs.contracts.step.Look as look
+use Rattle.history_book.specs.contracts.brief.Brief as brief
 use Rattle.history_book.proofs.step.Note.TheSendSync as note_crosses
-use Rattle.history_book.proofs.step.Look.TheSendSync as look_crosses
 use Rattle.omos_model.specs.contracts.entry.Entry as entry
 use Rattle.omos_model.specs.contracts.refusal.Refusal as refusal
 use Rattle.omos_model.proofs.refusal.Refusal.TheSendSync as refusal_crosses
@@ -144,26 +145,44 @@ module _ (R : denote.RattleType.RattleType) (s : IsSend R) (t : IsSync R) where
   row_sync : IsSync (shared.the_row (row.the_row R))
   row_sync = shared_crosses.the_sync (row.the_row R) (row_crosses.the_send R s) (row_crosses.the_sync R t)
 
+  few_send : IsSend (shared.the_row (few.the_row R))
+  few_send = shared_crosses.the_send (few.the_row R) (few_crosses.the_send R s) (few_crosses.the_sync R t)
+
+  few_sync : IsSync (shared.the_row (few.the_row R))
+  few_sync = shared_crosses.the_sync (few.the_row R) (few_crosses.the_send R s) (few_crosses.the_sync R t)
+
 leaf_send : IsSend (shared.the_row (row.the_row stamped.the_row))
 leaf_send = row_send stamped.the_row stamped_send stamped_sync
 
 leaf_sync : IsSync (shared.the_row (row.the_row stamped.the_row))
 leaf_sync = row_sync stamped.the_row stamped_send stamped_sync
 
-page_send : IsSend (shared.the_row (row.the_row (shared.the_row (row.the_row stamped.the_row))))
-page_send = row_send _ leaf_send leaf_sync
+page_send : IsSend (shared.the_row (few.the_row stamped.the_row))
+page_send = few_send stamped.the_row stamped_send stamped_sync
 
-page_sync : IsSync (shared.the_row (row.the_row (shared.the_row (row.the_row stamped.the_row))))
-page_sync = row_sync _ leaf_send leaf_sync
+page_sync : IsSync (shared.the_row (few.the_row stamped.the_row))
+page_sync = few_sync stamped.the_row stamped_send stamped_sync
 
-branches_send : IsSend (shared.the_row (row.the_row (shared.the_row (row.the_row (shared.the_row (row.the_row stamped.the_row))))))
-branches_send = row_send _ page_send page_sync
+branch_send : IsSend (shared.the_row (few.the_row (shared.the_row (few.the_row stamped.the_row))))
+branch_send = few_send _ page_send page_sync
 
-branches_sync : IsSync (shared.the_row (row.the_row (shared.the_row (row.the_row (shared.the_row (row.the_row stamped.the_row))))))
-branches_sync = row_sync _ page_send page_sync
+branch_sync : IsSync (shared.the_row (few.the_row (shared.the_row (few.the_row stamped.the_row))))
+branch_sync = few_sync _ page_send page_sync
+
+branches_send : IsSend (shared.the_row (few.the_row (shared.the_row (few.the_row (shared.the_row (few.the_row stamped.the_row))))))
+branches_send = few_send _ branch_send branch_sync
+
+many_send : IsSend (shared.the_row (row.the_row (shared.the_row (few.the_row (shared.the_row (few.the_row stamped.the_row))))))
+many_send = row_send _ branch_send branch_sync
+
+root_send : IsSend root.the_row
+root_send = search (branches_send, many_send, sendable) depth 60 fits 20000
+
+inside_send : IsSend inside.the_row
+inside_send = declared_send inside.the_type (search (crosses, sendable) depth 20 fits 4000, (search (root_send, as_row_send, sendable) depth 20 fits 4000, (search sendable, tt)))
 
 snap_send : IsSend snap.the_row
-snap_send = search (branches_send, sendable) depth 20 fits 4000
+snap_send = search (inside_send, sendable) depth 20 fits 4000
 
 linked_send : IsSend linked.the_row
 linked_send = search (leaf_send, bytes_crosses.the_send, pathname_crosses.the_send, sendable) depth 20 fits 4000
@@ -180,11 +199,11 @@ entry_sync = search crossing depth 60 fits 20000
 shared_entry : IsSend (shared.the_row entry.the_row)
 shared_entry = shared_crosses.the_send entry.the_row entry_send entry_sync
 
-step_send : IsSend step.the_row
-step_send = search (shared_entry, pathname_crosses.the_send, note_crosses.the_field_send, look_crosses.the_field_send, sendable) depth 60 fits 20000
+brief_send : IsSend brief.the_row
+brief_send = search (shared_entry, note_crosses.the_field_send, sendable) depth 60 fits 20000
 
 record_send : IsSend recorded.the_row
-record_send = search (step_send, vec_crosses.the_send, tally_crosses.the_field_send, crosses, sendable) depth 60 fits 20000
+record_send = search (brief_send, vec_crosses.the_send, tally_crosses.the_field_send, crosses, sendable) depth 60 fits 20000
 
 shared_linked : IsSend (shared.the_row linked.the_row)
 shared_linked = shared_crosses.the_send linked.the_row linked_send linked_sync
@@ -202,7 +221,7 @@ store_send : IsSend store.the_row
 store_send = search (record_send, snap_send, book_send, cache_send, sendable) depth 20 fits 4000
 
 held_send : IsSend held.the_row
-held_send = search (store_send, sendable) depth 20 fits 4000
+held_send = search (store_send, box_crosses.the_send, crosses, sendable) depth 60 fits 20000
 
 pub hub_sync : IsSync hub.the_row
 hub_sync = search (held_send, lock_crosses.the_sync, sendable) depth 60 fits 20000
