@@ -46,7 +46,9 @@ fn expand<'a, L: Ledger>(
     ensures cost { IsPaid result steps.old steps.new snap.now.entries path.now }
 {
     let mut above = Items::new(alloc);
-    visit_path(snap, &mut above, memo, false, false, path, path, counts, steps)
+    visit_path(
+        snap, &mut above, memo, false, false, path, path, counts, steps,
+    )
 }
 
 /// The module of a table, on the namespace that it was built on.

@@ -221,7 +221,12 @@ pub fn apply<L: Ledger>(
     }
     match built(alloc, part)? {
         Some(Ok(table)) => {
-            answered(alloc, at, node, operate(operator, table.into_inner(), steps))
+            answered(
+                alloc,
+                at,
+                node,
+                operate(operator, table.into_inner(), steps),
+            )
         }
         Some(Err(refusal)) => Ok(Part::Failed(refusal)),
         None => Ok(Part::Counted),

@@ -237,7 +237,14 @@ fn visit_nested<'a, L: Ledger>(
     let node = counts.node;
     counts.node = 0;
     let part = visit_tree(
-        snap, above, memo, counting, path, image.body(), counts, steps,
+        snap,
+        above,
+        memo,
+        counting,
+        path,
+        image.body(),
+        counts,
+        steps,
     )?;
     counts.node = node;
     Ok(part)
@@ -282,11 +289,28 @@ fn visit_tree<'a, L: Ledger>(
 {
     let mut pending = Items::new(counts.alloc());
     let mut part = descend(
-        snap, above, memo, counting, at, expr, &mut pending, counts, steps,
+        snap,
+        above,
+        memo,
+        counting,
+        at,
+        expr,
+        &mut pending,
+        counts,
+        steps,
     )?;
     'pending: while let Some(node) = pending.pop() {
         part = resume(
-            snap, above, memo, counting, at, node, part, &mut pending, counts, steps,
+            snap,
+            above,
+            memo,
+            counting,
+            at,
+            node,
+            part,
+            &mut pending,
+            counts,
+            steps,
         )?;
     }
     Ok(part)
