@@ -44,8 +44,8 @@ taken() { # SIZE KIND COUNT: the instructions inside both calls
 copied() { # of these, those of the C library's copies
     callgrind_annotate --threshold=100 out | python3 -c '
 import re, sys
-lines = (line for line in sys.stdin if re.search(r"mem(cpy|move|set)", line))
-print(sum(int(re.match(r"\s*([\d,]+)", line)[1].replace(",", "")) for line in lines))'
+found = (re.match(r"\s*([\d,]+) .*mem(cpy|move|set)", line) for line in sys.stdin)
+print(sum(int(row[1].replace(",", "")) for row in found if row))'
 }
 
 put() { # SIZE COUNT: the line of a put of so many bytes, and of one of half
