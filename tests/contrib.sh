@@ -88,7 +88,8 @@ check 'no image is left behind'
 
 "$omos" ./socket link /w/sub/clash clash > refusal; [ $? -eq 1 ]; check 'a clash is refused'
 "$contrib/omos-explain" -b lib/sub/clash.bp < refusal > words; check 'it is explained'
-grep -qx '  Two operands of a merge define malloc.' words; check 'its sentence'
+grep -qx '  Two operands of the merge at node 2 of /w/sub/clash define malloc.' words
+check 'its sentence'
 grep -qx '  node 2 of /w/sub/clash: (merge /w/sub/trace /w/alloc)' words; check 'its node'
 cat > deep.bp <<'END'
 ; node 0 is the merge, 1 /w/app, 2 the show, 3 the override, 4 /w/app, 5 the copy_as, 6 /w/alloc

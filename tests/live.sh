@@ -44,7 +44,11 @@ start 10
 "$omos" ./socket link /traced traced > line; check 'link'
 grep -q '^image version 4 base 0x400000 bytes ' line; check "link's line"
 [ -x traced ] && ./traced | cmp -s - "$here/examples/wrapped/expected.traced"; check 'the image runs'
-[ "$("$omos" ./socket link /nothing none)" = 'refused L1 /nothing 0 /nothing' ]; check "a refusal's line"
+[ "$("$omos" ./socket link /nothing none 2> said)" = 'refused L1 /nothing 0 /nothing' ]
+check "a refusal's line"
+[ "$(head -n 1 said)" = 'omos: Nothing is published at /nothing, which node 0 of /nothing names.' ]
+check 'what it means, for people'
+[ "$(wc -l < said)" = 2 ]; check 'and its cure'
 [ ! -e none ]; check 'no file is written on a refusal'
 "$omos" ./socket where /traced | grep -q '^0x400000 '; check 'where'
 [ "$("$omos" ./socket flush /traced)" = 'flushed 1' ]; check 'flush'
