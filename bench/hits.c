@@ -7,37 +7,13 @@
    `ask` compares the first answer of each client with the file REPLY, byte for byte, and the
    lengths of the others; then it prints the median of all round trips in microseconds, and the
    answers a second of all clients together. */
+#define PROGRAM "hits"
+#include "bytes.h"
 #include <pthread.h>
-#include <stdint.h>
-#include <stdio.h>
-#include <stdlib.h>
 #include <string.h>
 #include <sys/socket.h>
 #include <sys/un.h>
-#include <time.h>
 #include <unistd.h>
-
-struct bytes {
-    unsigned char *at;
-    size_t size;
-};
-
-static void fail(const char *text)
-{
-    fprintf(stderr, "hits: %s\n", text);
-    exit(1);
-}
-
-static struct bytes read_file(const char *name)
-{
-    FILE *file = fopen(name, "rb");
-    if (!file)
-        fail(name);
-    struct bytes bytes = {malloc(1 << 24), 0};
-    bytes.size = fread(bytes.at, 1, 1 << 24, file);
-    fclose(file);
-    return bytes;
-}
 
 static int read_all(int link, unsigned char *to, size_t count)
 {
@@ -110,13 +86,6 @@ static struct sockaddr_un server;
 static struct bytes request, wanted;
 static int count, anew;
 
-static uint64_t now(void)
-{
-    struct timespec t;
-    clock_gettime(CLOCK_MONOTONIC, &t);
-    return (uint64_t)t.tv_sec * 1000000000 + (uint64_t)t.tv_nsec;
-}
-
 static int connected(void)
 {
     int link = socket(AF_UNIX, SOCK_STREAM, 0);
@@ -146,12 +115,6 @@ static void *ask_all(void *word)
         close(link);
     free(reply);
     return 0;
-}
-
-static int order(const void *a, const void *b)
-{
-    uint64_t x = *(const uint64_t *)a, y = *(const uint64_t *)b;
-    return (x > y) - (x < y);
 }
 
 static void ask(int clients)

@@ -9,35 +9,11 @@
    must be the file BEGIN; then it sends the file REQUEST COUNT times, compares the first answer with
    the file REPLY and of each other the first bytes and the length, and prints the median round trip
    and the least, in microseconds. */
-#include <stdint.h>
-#include <stdio.h>
-#include <stdlib.h>
+#define PROGRAM "pipes"
+#include "bytes.h"
 #include <string.h>
 #include <sys/wait.h>
-#include <time.h>
 #include <unistd.h>
-
-struct bytes {
-    unsigned char *at;
-    size_t size;
-};
-
-static void fail(const char *text)
-{
-    fprintf(stderr, "pipes: %s\n", text);
-    exit(1);
-}
-
-static struct bytes read_file(const char *name)
-{
-    FILE *file = fopen(name, "rb");
-    if (!file)
-        fail(name);
-    struct bytes bytes = {malloc(1 << 24), 0};
-    bytes.size = fread(bytes.at, 1, 1 << 24, file);
-    fclose(file);
-    return bytes;
-}
 
 static void get(int from, unsigned char *to, size_t count)
 {
@@ -71,19 +47,6 @@ static void answer(char **word)
     put(1, begin);
     while (read(0, request, sizeof request) > 0)
         put(1, reply);
-}
-
-static uint64_t now(void)
-{
-    struct timespec t;
-    clock_gettime(CLOCK_MONOTONIC, &t);
-    return (uint64_t)t.tv_sec * 1000000000 + (uint64_t)t.tv_nsec;
-}
-
-static int order(const void *a, const void *b)
-{
-    uint64_t x = *(const uint64_t *)a, y = *(const uint64_t *)b;
-    return (x > y) - (x < y);
 }
 
 static void ask(char **word)
