@@ -1,7 +1,7 @@
 -- Rows of eight, and the values that they are made of.
 use Rattle.std.proofs.Common.{ℕ, zero, suc, ◌+◌, ◌-◌, ◌*◌, ◌<◌, ◌≤◌, ◌⊎◌, inl, inr, length, get_or, arith, ◌≡◌}
-use Rattle.std.proofs.Common.{List, [], ◌∷◌, ◌++◌, refl, sym, ap, ◌∙◌, take, drop, length-append, subst}
-use Rattle.std.proofs.lemmas.List.{length-take-le, length-drop, ext_get_or, get_or-take, get_or-drop}
+use Rattle.std.proofs.Common.{List, [], ◌∷◌, ◌++◌, refl, sym, ap, ◌∙◌, take, drop, length-append, subst, take_all}
+use Rattle.std.proofs.lemmas.List.{append-nil, length-take-le, length-drop, ext_get_or, get_or-take, get_or-drop}
 use Rattle.std.proofs.lemmas.List.{get_or_append_left, get_or-append_right, get_or_default}
 use Rattle.name_tree.specs.Few.{in_rows, IsRow}
 
@@ -112,3 +112,13 @@ module _ {X : Type 0} where
       ∙ at-row all from (from + (count - 1)) rs h i x (omega (arith, small, few)) (omega (arith, small))
       ∙ sym (get_or-drop from all i x)
       ∙ sym (get_or-take count (drop from all) i x small))
+
+  -- all values in one row
+  pub small-of : (xs : List X) (count : ℕ) (r : List X) → 0 < count → count ≤ 8
+      → count ≡ length xs → IsRow xs 0 (count - 1) r → take count r ≡ xs
+  small-of xs count r some few whole h =
+      let last : count - 1 ≡ 0 + (count - 1) = omega arith in
+      let row : IsRow xs 0 (0 + (count - 1)) r = subst (λ n. IsRow xs 0 n r) last h in
+      ap (λ l. take count l) (sym (append-nil r))
+      ∙ few-of xs 0 count (r ∷ []) some few (omega (arith, whole)) (row, tt)
+      ∙ take_all count xs (omega (arith, whole))

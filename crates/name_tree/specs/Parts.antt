@@ -4,12 +4,13 @@ use Rattle.omos_model.specs.Namespace.{Space}
 use Rattle.name_tree.specs.declared.joint.Parts.{Parts}
 use Rattle.name_tree.specs.declared.joint.Parts.TheVariants.{One, Two}
 use Rattle.name_tree.specs.declared.root.Root.{Root}
-use Rattle.name_tree.specs.declared.root.Root.TheVariants.{Few, Many}
+use Rattle.name_tree.specs.declared.root.Root.TheVariants.{Small, Few, Many}
 
 abbrev pub parts_of : {X : Type 0} → Parts X → List X
 parts_of (One parts) = parts
 parts_of (Two parts) = parts
 
 abbrev pub branches_of : Root → List (List Space)
+branches_of (Small branches) = branches
 branches_of (Few branches) = branches
 branches_of (Many branches) = branches

@@ -90,6 +90,54 @@ impl<T: Owned> Few<T> {
     }
 }
 
+/// Up to 8 values, that contracts see as their list, in place as those of a `Few`.
+#[derive(Drop)]
+pub struct Small<T> {
+    row: [T; 8],
+    count: usize,
+}
+
+impl<T> Model for Small<T> {
+    ghost use Rattle.std.specs.Prelude.{◌≡◌, ◌≤◌, List, length, take};
+    ghost use Rattle.std.specs.Coded.{coded_list};
+
+    ghost Value = { List T };
+
+    ghost coded = { coded_list T.code };
+
+    ghost view = { λ small. take small.count small.row };
+
+    ghost invariant = { λ small. (small.count ≤ 8) × (length small.row ≡ 8) };
+}
+
+impl<T> Small<T> {
+    /// The values.
+    pub fn as_slice(&self) -> &[T]
+        ensures { result.now ≡ self.now }
+    {
+        self.row.as_slice().split_at(self.count).0
+    }
+}
+
+impl<T: Owned> Small<T> {
+    /// Second owners of the values of three slices.
+    pub fn of(
+        alloc: Global,
+        front: &[T],
+        new: &[T],
+        back: &[T],
+        count: usize,
+    ) -> Result<Shared<Small<T>>, NoMemory>
+        requires some { 0 < count }
+        requires few { count ≤ 8 }
+        requires whole { count ≡ length (front.now ++ new.now ++ back.now) }
+        ensures { IfOk result (λ small. small ≡ front.now ++ new.now ++ back.now) }
+    {
+        let row = row(front, new, back, 0, count - 1)?;
+        Shared::of(alloc, Small { row, count })
+    }
+}
+
 /// The value of a number among those of three slices.
 #[inline(always)]
 fn item<'a, T>(front: &'a [T], new: &'a [T], back: &'a [T], at: usize) -> &'a T
@@ -118,11 +166,7 @@ fn owner<T: Owned>(
     requires { last < length (front.now ++ new.now ++ back.now) }
     ensures { IfOk result (λ x. at ≤ last → x ≡ get_or (front.now ++ new.now ++ back.now) at x) }
 {
-    if at <= last {
-        item(front, new, back, at).second()
-    } else {
-        item(front, new, back, last).second()
-    }
+    item(front, new, back, at.min(last)).second()
 }
 
 /// Second owners of eight of the values, from a number on.

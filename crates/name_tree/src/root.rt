@@ -3,15 +3,17 @@
 ghost use Rattle.std.specs.Prelude.{◌≡◌, [], ◌<◌, ◌++◌, length, IfOk};
 ghost use Rattle.name_tree.specs.Parts.{branches_of};
 
-use crate::few::{Few, append};
+use crate::few::{Few, Small, append};
 use crate::joint;
 use crate::pages::Branch;
 use omos_base::{NoMemory, Row, Shared};
 use std::alloc::Global;
 
-/// The branches: up to 64 in place, more in a list of their own.
+/// The branches: up to 8 or up to 64 in place, more in a list of their own. A publish makes all
+/// places of the root anew; more than 8 branches have 9,216 paths at least.
 #[derive(Drop)]
 pub enum Root {
+    Small(Shared<Small<Shared<Branch>>>),
     Few(Shared<Few<Shared<Branch>>>),
     Many(Shared<Row<Shared<Branch>>>),
 }
@@ -29,6 +31,7 @@ impl Root {
         ensures { IfOk result (λ root. root ≡ self.now) }
     {
         match self {
+            Root::Small(branches) => Ok(Root::Small(branches.twin()?)),
             Root::Few(branches) => Ok(Root::Few(branches.twin()?)),
             Root::Many(branches) => Ok(Root::Many(branches.twin()?)),
         }
@@ -39,6 +42,7 @@ impl Root {
         ensures { result.now ≡ branches_of self.now }
     {
         match self {
+            Root::Small(branches) => branches.get().as_slice(),
             Root::Few(branches) => branches.get().as_slice(),
             Root::Many(branches) => branches.get().as_slice(),
         }
@@ -55,6 +59,9 @@ impl Root {
         ensures { IfOk result (λ root. branches_of root ≡ front.now ++ new.now ++ back.now) }
     {
         let count = joint::count_of(front, new, back);
+        if count <= 8 {
+            return Ok(Root::Small(Small::of(alloc, front, new, back, count)?));
+        }
         if count <= 64 {
             return Ok(Root::Few(Few::of(alloc, front, new, back, 0, count)?));
         }
