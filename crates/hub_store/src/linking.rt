@@ -13,7 +13,7 @@ ghost use Rattle.hub_store.specs.declared.reply.Outcome.TheVariants as outcome;
 use crate::image::{has_as_new, is_answer};
 use crate::reply::{AskReply, Outcome, PlaceReply};
 use crate::store::Store;
-use crate::ticket::{Ticket, ticket_of};
+use crate::ticket::Ticket;
 use history_book::Note;
 use image_cache::Item;
 use link_model::{Linked, Planned};
@@ -36,14 +36,16 @@ impl Store {
         let tally = self.history.tally();
         let number = tally.requests;
         let Some(position) = self.cache.find(path, &self.snap, self.history.published()) else {
-            let Ok(snap) = self.snap.copy() else {
+            let version = tally.version;
+            let placed = self.book.len();
+            let Ok(ticket) =
+                Ticket::new(self.alloc, seat, number, path, version, placed, &self.snap)
+            else {
                 self.history.push_missed(seat, number);
                 return AskReply::NoMemory;
             };
-            self.history
-                .push_asked(seat, number, path, tally.version, false);
-            let placed = self.book.len();
-            return AskReply::Go(ticket_of(seat, number, path, tally.version, placed, snap));
+            self.history.push_asked(seat, number, path, version, false);
+            return AskReply::Go(ticket);
         };
         let Ok(image) = self.cache.at(position).image.twin() else {
             self.history.push_missed(seat, number);
@@ -71,18 +73,18 @@ impl Store {
         let pages = planned.pages();
         let at = self
             .book
-            .place_for(&ticket.path, pages, planned.lo(), planned.hi());
+            .place_for(ticket.path(), pages, planned.lo(), planned.hi());
         match at {
             Place::Held(base) => PlaceReply::At(base),
             Place::NoRoom => PlaceReply::NoRoom,
             Place::New(base) => {
                 self.book.add(Placement {
-                    path: ticket.path.copy(),
+                    path: ticket.path().copy(),
                     base,
                     pages,
                 });
                 self.history
-                    .push_placed(ticket.seat, ticket.number, &ticket.path, base, pages);
+                    .push_placed(ticket.seat(), ticket.number(), ticket.path(), base, pages);
                 PlaceReply::At(base)
             }
         }
@@ -96,7 +98,7 @@ impl Store {
         ensures { Appended self.old self.new
             (ending self.old.limits.cache self.old.steps ticket.now note) }
     {
-        self.history.push_answered(ticket.seat, ticket.number, note);
+        self.history.push_answered(ticket.seat(), ticket.number(), note);
     }
 
     /// Ends a link request with its image, which is stored where that is due.
@@ -105,15 +107,15 @@ impl Store {
         requires image { MayFinish self.old.steps ticket.now (outcome.Image image) }
         ensures { FinishGives self.old ticket.now (outcome.Image image) self.new }
     {
-        let seat = ticket.seat;
-        let number = ticket.number;
-        let version = ticket.version;
+        let seat = ticket.seat();
+        let number = ticket.number();
+        let version = ticket.version();
         is_answer(image.get());
         let note = Note::Image {
             base: image.get().base(),
         };
         self.history.push_answered(seat, number, note);
-        if has_as_new(&self.cache, &ticket.path, version) {
+        if has_as_new(&self.cache, ticket.path(), version) {
             return;
         }
         let item = Item {
@@ -125,11 +127,11 @@ impl Store {
         if let Some(path) = self.cache.store(item) {
             self.history.push_evicted(seat, number, &path);
             self.history
-                .push_stored(seat, number, &ticket.path, version);
+                .push_stored(seat, number, ticket.path(), version);
             return;
         }
         self.history
-            .push_stored(seat, number, &ticket.path, version);
+            .push_stored(seat, number, ticket.path(), version);
     }
 
     /// Ends a link request. Its image is stored unless one as new is held; in a full cache the one

@@ -1,10 +1,11 @@
 //! What is made ready outside the store: a publish, and a link request on its way.
 
-ghost use Rattle.std.specs.Prelude.{◌≡◌};
+ghost use Rattle.std.specs.Prelude.{◌≡◌, IfOk};
 
 use name_tree::Snap;
-use omos_base::{PathName, Shared};
+use omos_base::{NoMemory, PathName, Shared};
 use omos_model::Entry;
+use std::alloc::Global;
 use std::marker::Model;
 
 /// A publish with the version of the namespace that it makes.
@@ -36,15 +37,41 @@ impl Model for ReadyPut {
     ghost invariant = { λ r. r.size ≤ 1048576 };
 }
 
-/// A link request that was asked and has no answer yet.
+/// What a ticket says.
+#[derive(Drop)]
+struct Asking {
+    seat: u32,
+    number: u64,
+    path: PathName,
+    version: u64,
+    placed: u32,
+    snap: Snap,
+}
+
+impl Model for Asking {
+    ghost use Rattle.omos_model.specs.contracts.expr.Expr as expr;
+    ghost use Rattle.std.specs.Coded.{codes};
+    ghost use Rattle.hub_store.specs.Parts.{TicketParts};
+
+    ghost Value = { TicketParts };
+
+    ghost coded = { Prim.hlevel (codes, expr.the_row.coded) };
+
+    ghost view = { λ a. record {
+      seat = a.seat;
+      number = a.number;
+      path = a.path;
+      version = a.version;
+      placed = a.placed;
+      space = a.snap.entries;
+    } };
+}
+
+/// A link request that was asked and has no answer yet. It stands on the heap, so that a reply that
+/// may have one is small: a path is 255 bytes in place, and a hit has no ticket.
 #[derive(Drop)]
 pub struct Ticket {
-    pub(crate) seat: u32,
-    pub(crate) number: u64,
-    pub(crate) path: PathName,
-    pub(crate) version: u64,
-    pub(crate) placed: u32,
-    pub(crate) snap: Snap,
+    asking: Box<Asking>,
 }
 
 impl Model for Ticket {
@@ -56,87 +83,81 @@ impl Model for Ticket {
 
     ghost coded = { Prim.hlevel (codes, expr.the_row.coded) };
 
-    ghost view = { λ t. record {
-      seat = t.seat;
-      number = t.number;
-      path = t.path;
-      version = t.version;
-      placed = t.placed;
-      space = t.snap.entries;
-    } };
+    ghost view = { λ t. t.asking.value };
 }
 
 impl Ticket {
+    /// The ticket of a link request on this version, which is the snapshot's.
+    pub(crate) fn new(
+        alloc: Global,
+        seat: u32,
+        number: u64,
+        path: &PathName,
+        version: u64,
+        placed: u32,
+        snap: &Snap,
+    ) -> Result<Ticket, NoMemory>
+        ensures { IfOk result (λ t. t ≡ record {
+          seat = seat;
+          number = number;
+          path = path.now;
+          version = version;
+          placed = placed;
+          space = snap.now.entries;
+        }) }
+    {
+        let asking = Asking {
+            seat,
+            number,
+            path: path.copy(),
+            version,
+            placed,
+            snap: snap.copy()?,
+        };
+        Ok(Ticket {
+            asking: Box::new(alloc, asking)?,
+        })
+    }
+
     /// Whose it is.
     pub fn seat(&self) -> u32
         ensures { result ≡ self.now.seat }
     {
-        self.seat
+        self.asking.seat
     }
 
     /// The request's number.
     pub fn number(&self) -> u64
         ensures { result ≡ self.now.number }
     {
-        self.number
+        self.asking.number
     }
 
     /// The path that is to be linked.
     pub fn path(&self) -> &PathName
         ensures { result.now ≡ self.now.path }
     {
-        &self.path
+        &self.asking.path
     }
 
     /// The version at which it was asked.
     pub fn version(&self) -> u64
         ensures { result ≡ self.now.version }
     {
-        self.version
+        self.asking.version
     }
 
     /// How many placements there were then.
     pub fn placed(&self) -> u32
         ensures { result ≡ self.now.placed }
     {
-        self.placed
+        self.asking.placed
     }
 
     /// The namespace at that version.
     pub fn snap(&self) -> &Snap
         ensures { result.now.entries ≡ self.now.space }
     {
-        &self.snap
-    }
-}
-
-/// The ticket of a link request on this version, which is the snapshot's. It stands apart, so that
-/// a hit, which has none, clears no room for it.
-#[inline(never)]
-pub(crate) fn ticket_of(
-    seat: u32,
-    number: u64,
-    path: &PathName,
-    version: u64,
-    placed: u32,
-    snap: Snap,
-) -> Ticket
-    ensures { result ≡ record {
-      seat = seat;
-      number = number;
-      path = path.now;
-      version = version;
-      placed = placed;
-      space = snap.entries;
-    } }
-{
-    let path = path.copy();
-    Ticket {
-        seat,
-        number,
-        path,
-        version,
-        placed,
-        snap,
+        &self.asking.snap
     }
 }

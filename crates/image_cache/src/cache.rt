@@ -143,6 +143,9 @@ impl Cache {
         ensures items { (i : Item) × (i ≡ slice_index_or self.old.items position i)
             × (self.new.items ≡ as_found version i ∷ remove self.old.items position) }
     {
+        if position == 0 {
+            return self.items.renew_first(version);
+        }
         let mut item = self.items.take(position as usize);
         item.current_at = version;
         self.items.put_first(item);
