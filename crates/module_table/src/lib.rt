@@ -13,6 +13,7 @@ mod rules;
 mod steps;
 mod table;
 
+pub use exports::Definitions;
 pub use fault::TableFault;
 pub use steps::Steps;
 pub use table::Table;

@@ -8,17 +8,18 @@ ghost use Rattle.omos_model.specs.State.{state, states, in_rows};
 ghost use Rattle.module_table.specs.TableParts.{defined_in, AreNames};
 ghost use Rattle.module_table.specs.Stands.{StandsFor, IsObject, StandsForLeaf};
 
+use crate::exports::Definitions;
 use crate::{exports, marks, names};
-use indexmap::IndexMap;
 use omos_base::{NoMemory, Row, Shared, SymName};
 use omos_model::{Entry, Mark, MarkRow, Target};
+use seeded_hash::Seed;
 use std::alloc::Global;
 use std::marker::Model;
 
 /// What a module defines and refers to, seen as its definitions and its leaves.
 #[derive(Drop)]
 pub struct Table {
-    pub(crate) exports: IndexMap<SymName, Target>,
+    pub(crate) exports: Definitions,
     pub(crate) rows: Vec<MarkRow>,
 }
 
@@ -35,24 +36,30 @@ impl Model for Table {
 }
 
 impl Table {
-    /// The table of one object: each name of it is defined, each reference by name is open.
+    /// The table of one object: each name of it is defined, each reference by name is open. The
+    /// seed is that of its hashes, and of each table that an operator makes of it.
     ///
     /// The object is shared and not copied. The cost is that of its names and references.
-    pub fn leaf(alloc: Global, number: u32, entry: Shared<Entry>) -> Result<Table, NoMemory>
+    pub fn leaf(
+        alloc: Global,
+        seed: Seed,
+        number: u32,
+        entry: Shared<Entry>,
+    ) -> Result<Table, NoMemory>
         requires { IsObject entry }
         ensures { IfOk result (λ t. StandsForLeaf t number entry) }
     {
         let Entry::Object(fragment) = entry.get() else {
             unreachable!()
         };
-        let exports = exports::of_leaf(alloc, fragment.exports(), number)?;
+        let exports = exports::of_leaf(alloc, seed, fragment.exports(), number)?;
         let mut rows = Vec::with_capacity(alloc, 1)?;
         rows.push(marks::row(alloc, number, entry)?)?;
         Ok(Table { exports, rows })
     }
 
     /// The table of these definitions and references.
-    pub fn of_parts(exports: IndexMap<SymName, Target>, rows: Vec<MarkRow>) -> Table
+    pub fn of_parts(exports: Definitions, rows: Vec<MarkRow>) -> Table
         ensures { result ≡ record { exports = exports.entries; rows = rows.items } }
     {
         Table { exports, rows }
@@ -84,7 +91,7 @@ impl Table {
     }
 
     /// The definitions, in no order that counts.
-    pub fn definitions(&self) -> &IndexMap<SymName, Target>
+    pub fn definitions(&self) -> &Definitions
         ensures { result.now.entries ≡ self.now.exports }
     {
         &self.exports
