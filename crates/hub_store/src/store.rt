@@ -17,6 +17,7 @@ use name_tree::Snap;
 use omos_base::{Limits, NoMemory, PathName, Shared};
 use omos_model::Entry;
 use place_book::Book;
+use seeded_hash::Seed;
 use std::alloc::Global;
 use std::marker::Model;
 
@@ -58,14 +59,15 @@ impl Model for Store {
 }
 
 impl Store {
-    /// An empty store, of version 0. It takes the memory of its record and book.
-    pub fn open(alloc: Global, limits: Limits) -> Result<Store, NoMemory>
+    /// An empty store, of version 0. It takes the memory of its record and book. Tables of names
+    /// that are made from its versions hash by the seed.
+    pub fn open(alloc: Global, seed: Seed, limits: Limits) -> Result<Store, NoMemory>
         ensures { IfOk result (λ s. s ≡ record { steps = []; limits = limits }) }
     {
         Ok(Store {
             alloc,
             history: Record::new(alloc, limits.steps())?,
-            snap: Snap::empty(alloc)?,
+            snap: Snap::empty(alloc, seed)?,
             book: Book::new(alloc, limits.steps())?,
             cache: Cache::new(limits.cache()),
         })

@@ -8,6 +8,7 @@ use name_tree::Snap;
 use omos_base::{Bytes, Fault, PathName, Shared};
 use omos_model::Entry;
 use refusal_lines::text_line;
+use seeded_hash::Seed;
 use std::alloc::Global;
 use std::fs;
 
@@ -59,7 +60,7 @@ fn publish(rt: &HostRuntime, snap: &Snap, stamp: u64, item: &str) -> Result<OrLi
 
 /// The version in which all of a case is published, one after the other.
 pub(crate) fn version_of(rt: &HostRuntime, published: &str) -> Result<OrLine<Snap>> {
-    let mut snap = Snap::empty(rt.alloc())?;
+    let mut snap = Snap::empty(rt.alloc(), Seed::known(0))?;
     for (number, item) in published.split('&').enumerate() {
         match publish(rt, &snap, number as u64 + 1, item.trim())? {
             Ok(next) => snap = next,

@@ -14,6 +14,7 @@ use link_plan::{link, plan};
 use name_tree::Snap;
 use omos_base::{Fault, NoMemory, PathName, Shared};
 use omos_model::{Entry, Refusal};
+use seeded_hash::Seed;
 use std::alloc::Global;
 
 /// The address at which static executables usually begin.
@@ -28,7 +29,7 @@ fn version_of(
 ) -> Result<Snap, NoMemory>
     ensures { IfOk result (λ snap. snap.entries ≡ namespace_of first second third) }
 {
-    let none = Snap::empty(alloc)?;
+    let none = Snap::empty(alloc, Seed::known(0))?;
     let one = none.with(first.0, 1, first.1)?;
     let two = one.with(second.0, 2, second.1)?;
     two.with(third.0, 3, third.1)

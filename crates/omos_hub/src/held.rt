@@ -20,6 +20,7 @@ use hub_store::{
 use link_model::Planned;
 use omos_base::{Limits, NoMemory, PathName, Shared};
 use omos_model::Entry;
+use seeded_hash::Seed;
 use std::alloc::Global;
 use std::marker::Model;
 use turn_lock::Told;
@@ -65,11 +66,11 @@ impl Told for Held {
 }
 
 impl Held {
-    pub(crate) fn open(alloc: Global, limits: Limits) -> Result<Held, NoMemory>
+    pub(crate) fn open(alloc: Global, seed: Seed, limits: Limits) -> Result<Held, NoMemory>
         ensures { IfOk result (λ h. h ≡ record { steps = []; limits = limits }) }
     {
         Ok(Held {
-            store: Box::new(alloc, Store::open(alloc, limits)?)?,
+            store: Box::new(alloc, Store::open(alloc, seed, limits)?)?,
         })
     }
 

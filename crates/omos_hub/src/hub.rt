@@ -24,6 +24,7 @@ use hub_store::{
 use link_model::Planned;
 use omos_base::{Limits, NoMemory, PathName, Shared};
 use omos_model::Entry;
+use seeded_hash::Seed;
 use std::alloc::Global;
 use std::marker::Model;
 use std::sync::Wait;
@@ -68,9 +69,10 @@ fn split_passes(
 }
 
 impl Hub {
-    /// A hub over an empty store, and its passes, numbered from 1.
+    /// A hub over an empty store, and its passes, numbered from 1. Tables of names hash by the seed.
     pub fn open(
         alloc: Global,
+        seed: Seed,
         limits: Limits,
         workers: u32,
     ) -> Result<(Hub, Vec<Pass<Step>>), NoMemory>
@@ -79,7 +81,7 @@ impl Hub {
         ensures passes { IfOk result (λ r. AreNew r.0 limits.cache limits.steps r.1.items) }
         ensures legal { IfOk result (λ r. IsLegal limits.cache limits.steps []) }
     {
-        let held = Held::open(alloc, limits)?;
+        let held = Held::open(alloc, seed, limits)?;
         held.known();
         let (lock, zero) = TurnLock::new(alloc, held)?;
         let passes = split_passes(alloc, &lock, zero, workers)?;

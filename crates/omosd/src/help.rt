@@ -37,4 +37,4 @@ Status: 0 done; 1 the object is refused, and the output is the one line that say
 2 the command line is wrong; 3 standard input can't be read; 4 standard output can't be
 written; 5 the requests end inside a frame, or have bytes that begin none; 6 there are
 more than 65,536 requests; 8 there is no memory; 9 PATH can't be listened at, or a
-connection couldn't be taken.";
+connection couldn't be taken; 10 the system gives no random bytes.";

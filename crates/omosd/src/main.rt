@@ -12,6 +12,7 @@ use command_words::{is_alone, words_of};
 use omos_adapt::{Reading, Writing};
 use omosd_calls::omosd_once;
 use refusal_words::{Noting, tell};
+use seeded_hash::Seed;
 use session_calls::omosd_stdio;
 use std::io;
 use std::process::ExitCode;
@@ -35,6 +36,7 @@ fn message(status: u8) -> Option<&'static str> {
         6 => Some("omosd: more than 65,536 frames"),
         8 => Some("omosd: no memory"),
         9 => Some("omosd: no socket"),
+        10 => Some("omosd: the system gives no random bytes"),
         _ => None,
     }
 }
@@ -52,9 +54,12 @@ fn link_once(rt: &HostRuntime, words: &[String]) -> u8 {
 
 /// Serves one session, over the standard streams.
 fn serve_stdio(rt: &HostRuntime, words: &[String]) -> u8 {
+    let Ok(seed) = Seed::draw(rt) else {
+        return 10;
+    };
     let mut source = Reading::new(rt.stdin());
     let mut sink = Writing::new(io::writer(rt));
-    omosd_stdio(rt.alloc(), words, &mut source, &mut sink)
+    omosd_stdio(rt.alloc(), seed, words, &mut source, &mut sink)
 }
 
 /// Serves a workload, and prints its line on standard output. Its store is let go of.

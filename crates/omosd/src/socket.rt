@@ -2,11 +2,13 @@
 
 use omos_adapt::{SocketDoor, Writing, listen, remove_socket};
 use omos_outside::OpenGate;
+use seeded_hash::Seed;
 use session_calls::{Slot, omosd_socket, socket_words};
 use std::alloc::Global;
 use std::io;
 use std::net::Net;
 use std::os::unix::net::UnixListener;
+use std::random::RandomSource;
 use std::rt::Files;
 use std::sync::Wait;
 use std::thread::Threads;
@@ -17,6 +19,7 @@ use std::thread::Threads;
 fn serve_listener<R: Threads + Wait + Sync + Print>(
     rt: &R,
     alloc: Global,
+    seed: Seed,
     words: &[String],
     listener: &UnixListener,
     workers: u32,
@@ -32,11 +35,11 @@ fn serve_listener<R: Threads + Wait + Sync + Print>(
         }
     }
     let mut sink = Writing::new(io::writer(rt));
-    omosd_socket(rt, alloc, words, &mut slots, &mut sink)
+    omosd_socket(rt, alloc, seed, words, &mut slots, &mut sink)
 }
 
 /// Listens at the path of the words, serves all sessions, and removes the socket file.
-pub(crate) fn serve_socket<R: Threads + Wait + Sync + Net + Files + Print>(
+pub(crate) fn serve_socket<R: Threads + Wait + Sync + Net + Files + Print + RandomSource>(
     rt: &R,
     alloc: Global,
     words: &[String],
@@ -44,10 +47,13 @@ pub(crate) fn serve_socket<R: Threads + Wait + Sync + Net + Files + Print>(
     let (Some(said), Some(path)) = (socket_words(words), words.get(1)) else {
         return 2;
     };
+    let Ok(seed) = Seed::draw(rt) else {
+        return 10;
+    };
     let Ok(listener) = listen(rt, path.as_str()) else {
         return 9;
     };
-    let status = serve_listener(rt, alloc, words, &listener, said.workers);
+    let status = serve_listener(rt, alloc, seed, words, &listener, said.workers);
     remove_socket(rt, path.as_str());
     status
 }

@@ -15,6 +15,7 @@ use hub_store::Store;
 use omos_base::{Limits, NoMemory};
 use omos_hub::Hub;
 use omos_outside::{Door, Gate};
+use seeded_hash::Seed;
 use std::alloc::Global;
 use std::sync::Wait;
 use std::thread::Threads;
@@ -30,10 +31,12 @@ pub struct Served {
 }
 
 /// Each slot's worker serves the links that come at its door, until all sessions are drawn or its
-/// door gives no more. All memory but that of the sessions is taken before the first link.
+/// door gives no more. All memory but that of the sessions is taken before the first link. Tables of
+/// names hash by the seed.
 pub fn serve_slots<R: Threads + Wait + Sync, D: Door + Send + Drop, G: Gate + Send + Drop>(
     rt: &R,
     alloc: Global,
+    seed: Seed,
     slots: &mut Vec<Slot<D, G>>,
     limits: Limits,
     sessions: u32,
@@ -54,7 +57,7 @@ where
     let workers = slots.len() as u32;
     let mut seated = Vec::with_capacity(alloc, slots.len())?;
     let (draws, mut seats) = Draws::new(alloc, sessions, workers)?;
-    let (hub, mut passes) = Hub::open(alloc, limits, workers)?;
+    let (hub, mut passes) = Hub::open(alloc, seed, limits, workers)?;
     seat_all(
         rt,
         alloc,

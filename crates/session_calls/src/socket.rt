@@ -11,6 +11,7 @@ use command_words::{SocketWords, socket_words};
 use omos_base::{Limits, NoMemory};
 use omos_outside::{Door, Gate, Sent, Sink, write_all};
 use omosd_slots::{Slot, serve_slots};
+use seeded_hash::Seed;
 use std::alloc::Global;
 use std::sync::Wait;
 use std::thread::Threads;
@@ -44,7 +45,8 @@ fn said_of(words: &[String], slots: usize) -> Option<SocketWords>
 /// written: `sessions N requests R version V placements L hits H stored T evicted E`.
 ///
 /// The words are `socket PATH WORKERS SESSIONS CACHE STEPS`, with as many workers as there are
-/// slots. The path is `main`'s: it makes the doors. The result is the status: 0 all is done; 2 the
+/// slots. The path is `main`'s: it makes the doors, and draws the seed by which tables of names hash.
+/// The result is the status: 0 all is done; 2 the
 /// words are others; 4 the sink failed; 8 there was no memory, and then no door was asked; 9 a door
 /// failed. A session's own end changes no status.
 pub fn omosd_socket<
@@ -52,7 +54,14 @@ pub fn omosd_socket<
     D: Door + Send + Drop,
     G: Gate + Send + Drop,
     K: Sink,
->(rt: &R, alloc: Global, words: &[String], slots: &mut Vec<Slot<D, G>>, sink: &mut K) -> u8
+>(
+    rt: &R,
+    alloc: Global,
+    seed: Seed,
+    words: &[String],
+    slots: &mut Vec<Slot<D, G>>,
+    sink: &mut K,
+) -> u8
 where
     D::In: Send,
     D::Out: Send,
@@ -81,7 +90,7 @@ where
     let Some(limits) = Limits::of(said.cache, said.steps) else {
         unreachable!()
     };
-    match serve_slots(rt, alloc, slots, limits, said.sessions) {
+    match serve_slots(rt, alloc, seed, slots, limits, said.sessions) {
         Ok(run) => {
             let line = totals_line(run.sessions, &run.store.totals());
             status_by(run.failed, write_all(sink, line.as_slice()))

@@ -10,6 +10,7 @@ use hub_store::Store;
 use omos_base::NoMemory;
 use omos_outside::{Sink, Source};
 use omos_session::{SessionEnd, serve_owned};
+use seeded_hash::Seed;
 use std::alloc::Global;
 
 /// The status that tells how a session ended.
@@ -27,7 +28,8 @@ fn status_of(end: SessionEnd) -> u8
 }
 
 /// Opens an empty store with the limits that the words `stdio CACHE STEPS` say, and serves seat 1
-/// on it: reads the requests from the source and writes the replies to the sink.
+/// on it: reads the requests from the source and writes the replies to the sink. Tables of names
+/// hash by the seed.
 ///
 /// The result is the status: 0 an End was answered, or the source ended between two frames; 2 the
 /// words are others; 3 the source failed; 4 the sink failed; 5 the source ended inside a frame, or
@@ -35,6 +37,7 @@ fn status_of(end: SessionEnd) -> u8
 /// buffer, which is the one answer whose cause no clause can give. It waits for nobody.
 pub fn omosd_stdio<S: Source, K: Sink>(
     alloc: Global,
+    seed: Seed,
     words: &[String],
     source: &mut S,
     sink: &mut K,
@@ -57,7 +60,7 @@ pub fn omosd_stdio<S: Source, K: Sink>(
     let Some(limits) = stdio_words(words) else {
         return 2;
     };
-    match Store::open(alloc, limits) {
+    match Store::open(alloc, seed, limits) {
         Ok(mut store) => status_of(serve_owned(alloc, &mut store, 1, source, sink)),
         Err(NoMemory) => 8,
     }

@@ -4,6 +4,7 @@ use anyhow::{Context, Result, bail};
 use omos_base::{Bytes, Row};
 use omos_outside::{MemorySink, MemorySource};
 use session_calls::omosd_stdio;
+use seeded_hash::Seed;
 use std::alloc::Global;
 use workload_calls::omosd_workload;
 
@@ -56,7 +57,7 @@ pub(crate) fn outcome_of(
     let bytes = Bytes::from_slice(alloc, stream)?;
     let mut source = MemorySource::new(bytes, step, call_of(alloc, fault, "read")?);
     let mut sink = sink_of(alloc, fault)?;
-    let status = omosd_stdio(alloc, &words, &mut source, &mut sink);
+    let status = omosd_stdio(alloc, Seed::known(0), &words, &mut source, &mut sink);
     Ok(Outcome { status, sink })
 }
 

@@ -8,6 +8,7 @@ use anyhow::{Context, Result};
 use omos_base::Row;
 use omos_outside::MemorySink;
 use session_calls::omosd_socket;
+use seeded_hash::Seed;
 use std::alloc::Global;
 use std::fs;
 use std::rt::Files;
@@ -114,7 +115,7 @@ pub(crate) fn run_case<R: Threads + Wait + Sync + Files + Alloc<A = Global> + Pr
     let mut slots = slots_of(rt, alloc, &flags, case.workers)?;
     let words = words_of(alloc, case.words)?;
     let mut sink = MemorySink::new(alloc, case.room, 4096, Row::new(alloc))?;
-    let status = omosd_socket(rt, alloc, &words, &mut slots, &mut sink);
+    let status = omosd_socket(rt, alloc, Seed::known(0), &words, &mut slots, &mut sink);
     for (slot, text) in slots.iter().zip(case.workers.split("\nworker ")) {
         compare_worker(rt, alloc, case, slot, text)?;
     }

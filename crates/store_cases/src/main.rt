@@ -12,6 +12,7 @@ use crate::row::answer_of;
 use anyhow::{Context, Result};
 use hub_store::Store;
 use omos_base::Limits;
+use seeded_hash::Seed;
 use std::fs;
 use std::str::Lines;
 
@@ -45,7 +46,7 @@ fn run_rows(rt: &HostRuntime, store: &mut Store, rows: Lines<'_>) -> Result<()> 
 fn run_part(rt: &HostRuntime, part: &str) -> Result<()> {
     let mut lines = part.trim().lines();
     let limits = limits_of(lines.next().unwrap_or(""))?;
-    let mut store = Store::open(rt.alloc(), limits)?;
+    let mut store = Store::open(rt.alloc(), Seed::known(0), limits)?;
     run_rows(rt, &mut store, lines)
 }
 

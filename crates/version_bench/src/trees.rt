@@ -5,6 +5,7 @@ use anyhow::Result;
 use name_tree::Snap;
 use omos_base::Shared;
 use omos_model::Entry;
+use seeded_hash::Seed;
 use std::alloc::Global;
 
 /// The next version.
@@ -22,7 +23,7 @@ fn step(snap: &mut Snap, number: u32, entry: &Shared<Entry>) -> Result<()> {
 /// How many paths the last version has.
 pub(crate) fn last_of(alloc: Global, count: u32) -> Result<usize> {
     let entry = nothing(alloc)?;
-    let mut snap = Snap::empty(alloc)?;
+    let mut snap = Snap::empty(alloc, Seed::known(0))?;
     for number in 0..count {
         step(&mut snap, number, &entry)?;
     }
@@ -39,7 +40,7 @@ fn keep(kept: &mut Vec<Snap>, snap: &mut Snap, number: u32, entry: &Shared<Entry
 pub(crate) fn kept_of(alloc: Global, count: u32) -> Result<usize> {
     let entry = nothing(alloc)?;
     let mut kept = Vec::new(alloc);
-    let mut snap = Snap::empty(alloc)?;
+    let mut snap = Snap::empty(alloc, Seed::known(0))?;
     for number in 0..count {
         keep(&mut kept, &mut snap, number, &entry)?;
     }

@@ -17,6 +17,7 @@ use hub_store::Store;
 use omos_base::{Bytes, Limits, NoMemory, Row};
 use omos_outside::{MemorySink, MemorySource};
 use omos_session::{SessionEnd, serve_owned};
+use seeded_hash::Seed;
 use std::alloc::Global;
 
 /// How many images the cache holds.
@@ -44,7 +45,8 @@ fn open_store(alloc: Global) -> Result<Store, NoMemory>
     let Some(limits) = Limits::of(CACHE, STEPS) else {
         unreachable!()
     };
-    Store::open(alloc, limits)
+    // The objects are the workload's own, so no stranger chooses their names.
+    Store::open(alloc, Seed::known(0), limits)
 }
 
 /// Serves the frames of workload `n` as seat 1. The error is want of memory, for a buffer or for
