@@ -11,6 +11,7 @@ use crate::landed;
 use module_table::Table;
 use omos_base::{Fault, NoMemory, PathName, Row, Shared, SymName};
 use omos_model::{Entry, Stamped, Start};
+use seeded_hash::Seed;
 use std::alloc::Global;
 
 /// An entry's object is a fragment. Nothing is run.
@@ -57,13 +58,19 @@ impl Evaluated {
         Ok(Evaluated::of(path, leaves, landings, names, footprint, start, lo, hi))
     }
 
-    /// The evaluation of an object's path on the namespace that holds it alone, with stamp 1.
-    pub fn lone(alloc: Global, path: PathName, entry: Shared<Entry>) -> Result<Evaluated, NoMemory>
+    /// The evaluation of an object's path on the namespace that holds it alone, with stamp 1. The
+    /// table of its names hashes by the seed.
+    pub fn lone(
+        alloc: Global,
+        seed: Seed,
+        path: PathName,
+        entry: Shared<Entry>,
+    ) -> Result<Evaluated, NoMemory>
         requires { IsObject entry }
         ensures { IfOk result (λ m. (m.path ≡ path) × (m.footprint ≡ alone path entry)) }
     {
         holds_fragment(entry.get());
-        let table = Table::leaf(alloc, 0, entry.twin()?)?;
+        let table = Table::leaf(alloc, seed, 0, entry.twin()?)?;
         let mut footprint = Row::new(alloc);
         footprint.push(Stamped {
             path: Shared::of(alloc, path.copy())?,

@@ -43,9 +43,12 @@ fn message(status: u8) -> Option<&'static str> {
 
 /// Links one object, over the standard streams; a refusal is told on standard error.
 fn link_once(rt: &HostRuntime, words: &[String]) -> u8 {
+    let Ok(seed) = Seed::draw(rt) else {
+        return 10;
+    };
     let mut source = Reading::new(rt.stdin());
     let mut sink = Noting::new(Writing::new(io::writer(rt)));
-    let status = omosd_once(rt.alloc(), words, &mut source, &mut sink);
+    let status = omosd_once(rt.alloc(), seed, words, &mut source, &mut sink);
     if status == 1 {
         tell(rt, "omosd", sink.noted());
     }

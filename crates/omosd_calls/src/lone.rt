@@ -13,6 +13,7 @@ use link_layout::lay;
 use link_model::{Evaluated, laws};
 use omos_base::{Bytes, Fault, NoMemory, PathName, Shared};
 use omos_model::{Entry, Fragment, Refusal};
+use seeded_hash::Seed;
 use std::alloc::Global;
 
 /// The address of the image.
@@ -43,16 +44,20 @@ fn link(alloc: Global, evaluated: &Evaluated) -> Result<Bytes, Fault<Refusal>>
     }
 }
 
-fn evaluate(alloc: Global, fragment: Fragment) -> Result<Evaluated, NoMemory>
+fn evaluate(alloc: Global, seed: Seed, fragment: Fragment) -> Result<Evaluated, NoMemory>
     ensures { IfOk result (λ m. (m.path ≡ lone_path)
         × (m.footprint ≡ alone lone_path (Entry.Object fragment))) }
 {
     let entry = Shared::of(alloc, Entry::Object(fragment))?;
-    Evaluated::lone(alloc, lone_path(), entry)
+    Evaluated::lone(alloc, seed, lone_path(), entry)
 }
 
-/// The image of a file's object, or why it has none.
-pub(crate) fn lone_image(alloc: Global, file: &[u8]) -> Result<Bytes, Fault<Cause>>
+/// The image of a file's object, or why it has none. The table of its names hashes by the seed.
+pub(crate) fn lone_image(
+    alloc: Global,
+    seed: Seed,
+    file: &[u8],
+) -> Result<Bytes, Fault<Cause>>
     ensures { MatchFault result
         (λ image. lone_answer file.now ≡ Ok image) (λ cause. lone_answer file.now ≡ Err cause) }
 {
@@ -61,7 +66,7 @@ pub(crate) fn lone_image(alloc: Global, file: &[u8]) -> Result<Bytes, Fault<Caus
         Err(Fault::Refused(fault)) => return Err(Fault::Refused(Cause::Object(fault))),
         Err(Fault::NoMemory) => return Err(Fault::NoMemory),
     };
-    let Ok(module) = evaluate(alloc, fragment) else {
+    let Ok(module) = evaluate(alloc, seed, fragment) else {
         return Err(Fault::NoMemory);
     };
     match link(alloc, &module) {

@@ -15,6 +15,7 @@ use crate::reading::{Unread, read_file};
 use crate::words::is_once;
 use omos_base::Fault;
 use omos_outside::{Sent, Sink, Source, write_all};
+use seeded_hash::Seed;
 use std::alloc::Global;
 
 /// Writes the line that says why a file has no image.
@@ -31,13 +32,13 @@ fn write_line<K: Sink>(cause: &Cause, sink: &mut K) -> Ending
 }
 
 /// Writes the image of a file, or why it has none.
-fn answer_file<K: Sink>(alloc: Global, file: &[u8], sink: &mut K) -> Ending
+fn answer_file<K: Sink>(alloc: Global, seed: Seed, file: &[u8], sink: &mut K) -> Ending
     ensures answer { Answered result file.now (K.held sink.old) (K.held sink.new) }
     ensures later { K.faults sink.old ≤ K.faults sink.new }
     ensures failed { result ≡ Ending.SinkFailed → Rose (K.faults sink.old) (K.faults sink.new) }
     ensures no_memory { result ≡ Ending.NoMemory → sink.new ≡ sink.old }
 {
-    match lone_image(alloc, file) {
+    match lone_image(alloc, seed, file) {
         Ok(image) => match write_all(sink, image.as_slice()) {
             Sent::All => Ending::Done,
             Sent::Failed => Ending::SinkFailed,
@@ -48,13 +49,15 @@ fn answer_file<K: Sink>(alloc: Global, file: &[u8], sink: &mut K) -> Ending
 }
 
 /// Reads an object from the source, to its end or to 1,048,577 bytes, and writes to the sink its
-/// static executable at 0x00400000, or the line that says why it is refused.
+/// static executable at 0x00400000, or the line that says why it is refused. The table of the
+/// object's names hashes by the seed.
 ///
 /// The result is the status: 0 the image was written; 1 the line was written; 2 the words aren't
 /// the one word `once`; 3 the source failed; 4 the sink failed; 8 there was no memory, which is
 /// the one answer whose cause no clause can give.
 pub fn omosd_once<S: Source, K: Sink>(
     alloc: Global,
+    seed: Seed,
     words: &[String],
     source: &mut S,
     sink: &mut K,
@@ -95,7 +98,7 @@ pub fn omosd_once<S: Source, K: Sink>(
         return Ending::Usage.status();
     }
     match read_file(alloc, source) {
-        Ok(file) => answer_file(alloc, file.as_slice(), sink).status(),
+        Ok(file) => answer_file(alloc, seed, file.as_slice(), sink).status(),
         Err(Unread::SourceFailed) => Ending::SourceFailed.status(),
         Err(Unread::NoMemory) => Ending::NoMemory.status(),
     }

@@ -5,6 +5,7 @@ use crate::input::source_of;
 use crate::output::{is_output, sink_of};
 use anyhow::{Context, Result};
 use omosd_calls::omosd_once;
+use seeded_hash::Seed;
 use std::alloc::Global;
 
 /// The words of a command line; `none` for none.
@@ -25,7 +26,7 @@ pub(crate) fn outcome_of(rt: &HostRuntime, case: &Case) -> Result<&'static str> 
     let mut source = source_of(rt, case.input, case.reads)?;
     let mut sink = sink_of(alloc, case.writes)?;
     let want: u8 = case.status.parse().context("the status")?;
-    let status = omosd_once(alloc, &words, &mut source, &mut sink);
+    let status = omosd_once(alloc, Seed::known(0), &words, &mut source, &mut sink);
     if status != want {
         return Ok("OTHER STATUS ");
     }
