@@ -251,8 +251,65 @@ start 1
 "$omos" ./socket stats > line; check 'a socket file that was left behind is replaced'
 wait $server
 
-"$omos" ./socket link /p 2> errors; [ $? -eq 2 ]; check 'usage of the client'
-"$omosd" socket ./socket 17 1 1 16 2> errors; [ $? -eq 2 ]; check 'usage of the server'
+# ---- what a refused file is, on standard error
+
+told() { # FILE SENTENCE: once refuses the file, and says this last
+  "$omosd" once < "$1" 2>&1 > line | tail -n 1 > said
+  [ "$(cat said)" = "omosd: $2" ]
+  check "of $1: $2"
+}
+
+: > nothing
+told nothing 'It is empty.'
+cp "$here/examples/wrapped/app.c" .
+told app.c 'It is a text, perhaps a source: compile it (cc -c), and give the .o file.'
+ar rc lib.a alloc.o trace.o
+told lib.a 'It is an archive: take it apart (ar x), and give each of its objects.'
+told traced 'It is a program that is linked already: give the objects it was made of.'
+{ printf '\x7fELF\x01'; head -c 100 /dev/zero; } > small.o
+told small.o 'It is an ELF file of 32-bit words: compile for x86-64, without -m32.'
+as -o group.o - <<'END'
+  .section .text.max,"axG",@progbits,max,comdat
+  .weak max
+max: ret
+END
+told group.o 'Section 1 is the COMDAT group of `max`.'
+as -o own.o - <<'END'
+  .section .tdata,"awT",@progbits
+  .globl counter
+counter: .long 0
+END
+told own.o 'Section 4 is `.tdata`, which is thread-local.'
+as -o chosen.o - <<'END'
+  .globl copy
+  .type copy, @gnu_indirect_function
+copy: ret
+END
+told chosen.o 'Symbol 1 is `copy`, an indirect function (ifunc).'
+as -o far.o - <<'END'
+  .globl _start
+_start: mov $counter, %al
+END
+told far.o 'Relocation 0 of `.rela.text` is R_X86_64_8, against `counter`.'
+as -o open.o - <<'END'
+  .globl _start
+_start: call puts
+  call exit
+  call printf
+END
+told open.o 'The object leaves `exit`, `printf` undefined, too.'
+[ "$(cat line)" = 'refused L11 0 0 puts' ]; check 'and the line as ever'
+"$omosd" once < <(cat lib.a) 2>&1 > line | tail -n 1 | grep -q 'ar x'; check 'no second look at a pipe'
+start 1
+"$omos" ./socket put /lib lib.a 2>&1 > line | tail -n 1 > said
+[ "$(cat said)" = 'omos: It is an archive: take it apart (ar x), and give each of its objects.' ]
+check 'the same by the client'
+wait $server
+
+"$omos" ./socket link /p 2> errors; [ $? -eq 2 ] && grep -q 'omos --help says more' errors
+check 'usage of the client'
+"$omosd" socket ./socket 17 1 1 16 2> errors; [ $? -eq 2 ] && grep -q 'omosd --help' errors
+check 'usage of the server'
 
 echo "$passed passed, $failed failed"
 [ $failed -eq 0 ]

@@ -6,7 +6,8 @@ pub(crate) const USAGE: &str = "usage: omos SOCKET put PATH FILE
        omos SOCKET link PATH FILE
        omos SOCKET where PATH
        omos SOCKET stats
-       omos SOCKET flush PATH";
+       omos SOCKET flush PATH
+       omos --help says more";
 
 /// The version of the program.
 pub(crate) const VERSION: &str = "omos 0.2.0";

@@ -6,6 +6,7 @@ mod help;
 
 use crate::help::{HELP, USAGE, VERSION};
 use command_words::{is_alone, words_of};
+use file_hints::tell_file;
 use omos_adapt::{RealFiles, Writing, connect};
 use omos_client::{client, client_words};
 use refusal_words::{Noting, tell};
@@ -52,6 +53,9 @@ fn ask(rt: &HostRuntime, words: &[String]) -> u8 {
     let status = client(alloc, words, &mut from, &mut to, &mut files, &mut out);
     if status == 1 || status == 12 {
         tell(rt, "omos", out.noted());
+        if words.len() == 4 && words[1].as_str() == "put" {
+            tell_file(rt, alloc, "omos", out.noted(), words[3].as_str());
+        }
     }
     status
 }

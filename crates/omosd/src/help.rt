@@ -4,7 +4,8 @@
 pub(crate) const USAGE: &str = "usage: omosd once < OBJECT > IMAGE
        omosd stdio CACHE STEPS < REQUESTS > REPLIES
        omosd socket PATH WORKERS SESSIONS CACHE STEPS
-       omosd workload N";
+       omosd workload N
+       omosd --help says more";
 
 /// The version of the program.
 pub(crate) const VERSION: &str = "omosd 0.2.0";

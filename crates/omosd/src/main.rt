@@ -9,6 +9,7 @@ mod socket;
 use crate::help::{HELP, USAGE, VERSION};
 use crate::socket::serve_socket;
 use command_words::{is_alone, words_of};
+use file_hints::tell_file;
 use omos_adapt::{Reading, Writing};
 use omosd_calls::omosd_once;
 use refusal_words::{Noting, tell};
@@ -51,6 +52,7 @@ fn link_once(rt: &HostRuntime, words: &[String]) -> u8 {
     let status = omosd_once(rt.alloc(), seed, words, &mut source, &mut sink);
     if status == 1 {
         tell(rt, "omosd", sink.noted());
+        tell_file(rt, rt.alloc(), "omosd", sink.noted(), "/dev/stdin");
     }
     status
 }
