@@ -13,8 +13,9 @@ ghost use Rattle.omos_model.specs.declared.refusal.ObjectFault.TheVariants.{Twic
 ghost use Rattle.elf_object.specs.Stages.{HasHeaders};
 ghost use Rattle.elf_object.specs.TablesOf.{AreSymbols};
 
-use crate::symbols::{SHN_UNDEF, STB_GLOBAL, STB_WEAK, name, symbol};
+use crate::symbols::{name, symbol};
 use crate::symtab::Symbols;
+use elf_words::values::{SHN_UNDEF, STB_GLOBAL, STB_WEAK};
 use omos_base::{Fault, NoMemory, SymName};
 use omos_model::ObjectFault;
 use std::alloc::Global;

@@ -14,5 +14,6 @@ mod symbols;
 mod symtab;
 mod tables;
 
+pub use entries::kind_of;
 pub use read::read_tables;
 pub use tables::Tables;
