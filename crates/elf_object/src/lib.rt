@@ -10,6 +10,7 @@ mod names;
 mod read;
 mod reads;
 mod relas;
+mod seen;
 mod symbols;
 mod symtab;
 mod tables;
