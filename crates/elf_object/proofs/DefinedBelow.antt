@@ -1,20 +1,13 @@
 -- The names that the symbols below one define, as a search for a name defined twice comes to it.
 use Rattle.std.proofs.Common.{◌≡◌, ℕ, zero, suc, ◌+◌, ◌-◌, ◌≤◌, Bool, true, false, ◌&&◌, ◌||◌}
 use Rattle.std.proofs.Common.{List, [], ◌∷◌, ◌++◌, refl, sym, ap, ◌∙◌, cond, arith}
-use Rattle.std.specs.Prelude.{nat_eq}
 use Rattle.std.specs.List.{list_any}
-use Rattle.std.specs.Cmp.Lexicographic.{pointwise}
 use Rattle.std.proofs.lemmas.List.Folds.{list_any-append}
 use Rattle.omos_model.specs.Names.{Name, same_name}
 use Rattle.omos_model.specs.Numbers.{numbers_from}
 use Rattle.omos_model.specs.ElfFields.{name_of}
 use Rattle.omos_model.specs.ElfFaults.{is_again, is_export}
-use Rattle.omos_model.proofs.Names.{same_name-swap}
-
--- a symbol below k defines the name
-abbrev pub is_defined_below : List ℕ → ℕ → Name → Bool
-is_defined_below file k n =
-    list_any (λ j. is_export file j && same_name n (name_of file j)) (numbers_from 1 (k - 1))
+use Rattle.elf_object.specs.Seen.{is_defined_below}
 
 pub numbers_push : (s c : ℕ) → numbers_from s (suc c) ≡ numbers_from s c ++ (s + c) ∷ []
 numbers_push s zero = ap (λ (n : ℕ). n ∷ []) (omega arith)
@@ -46,39 +39,28 @@ below_more file k n h =
     ∙ ap (list_any p) (one_more k h) ∙ list_any-append p (numbers_from 1 (k - 1)) (k ∷ [])
     ∙ ap (λ b. is_defined_below file k n || b) (or_false (p k))
 
-or_cond : (b c : Bool) → cond b true c ≡ (c || b)
-or_cond true true = refl
-or_cond true false = refl
-or_cond false c = sym (or_false c)
-
--- a set that has one name more
-pub with_export : (file : List ℕ) (k : ℕ) (name n : Name) (old new : Bool) → 1 ≤ k
-    → (is_export file k ≡ true) × (name ≡ name_of file k) → old ≡ is_defined_below file k n
-    → new ≡ cond (pointwise nat_eq name n) true old → new ≡ is_defined_below file (k + 1) n
-with_export file k name n old new h export before after =
-    after
-    ∙ ap (λ m. cond (same_name m n) true old) export.1
-    ∙ ap (λ b. cond b true old) (same_name-swap (name_of file k) n)
-    ∙ or_cond (same_name n (name_of file k)) old
-    ∙ ap (λ b. b || same_name n (name_of file k)) before
-    ∙ ap (λ b. is_defined_below file k n || (b && same_name n (name_of file k))) (sym export.0)
-    ∙ sym (below_more file k n h)
-
-pub without_export : (file : List ℕ) (k : ℕ) (n : Name) (old : Bool) → 1 ≤ k
-    → is_export file k ≡ false → old ≡ is_defined_below file k n
-    → old ≡ is_defined_below file (k + 1) n
-without_export file k n old h none before =
-    before ∙ sym (or_false (is_defined_below file k n))
-    ∙ ap (λ b. is_defined_below file k n || (b && same_name n (name_of file k))) (sym none)
-    ∙ sym (below_more file k n h)
-
--- whether the set has the name decides whether it is there again
-pub again_as : (file : List ℕ) (k : ℕ) (name : Name) (old found : Bool)
-    → (is_export file k ≡ true) × (name ≡ name_of file k) → old ≡ is_defined_below file k name
-    → old ≡ found → is_again file k ≡ found
-again_as file k name old found export before is =
-    ap (λ b. b && is_defined_below file k (name_of file k)) export.0
-    ∙ ap (is_defined_below file k) (sym export.1) ∙ sym before ∙ is
+-- whether the name is defined below decides whether it is there again
+pub again_as : (file : List ℕ) (k : ℕ) (name : Name) (found : Bool) → is_export file k ≡ true
+    → name ≡ name_of file k → is_defined_below file k name ≡ found → is_again file k ≡ found
+again_as file k name found export same is =
+    ap (λ b. b && is_defined_below file k (name_of file k)) export
+    ∙ ap (is_defined_below file k) (sym same) ∙ is
 
 pub never_again : (file : List ℕ) (k : ℕ) → is_export file k ≡ false → is_again file k ≡ false
 never_again file k none = ap (λ b. b && is_defined_below file k (name_of file k)) none
+
+-- an export's name is defined below the next number, and those that were
+pub below_export : (file : List ℕ) (k : ℕ) (name n : Name) → 1 ≤ k → is_export file k ≡ true
+    → name ≡ name_of file k
+    → is_defined_below file (k + 1) n ≡ (is_defined_below file k n || same_name n name)
+below_export file k name n low export same =
+    below_more file k n low
+    ∙ ap (λ b. is_defined_below file k n || (b && same_name n (name_of file k))) export
+    ∙ ap (λ m. is_defined_below file k n || same_name n m) (sym same)
+
+pub below_other : (file : List ℕ) (k : ℕ) (n : Name) → 1 ≤ k → is_export file k ≡ false
+    → is_defined_below file (k + 1) n ≡ is_defined_below file k n
+below_other file k n low none =
+    below_more file k n low
+    ∙ ap (λ b. is_defined_below file k n || (b && same_name n (name_of file k))) none
+    ∙ or_false (is_defined_below file k n)

@@ -1,5 +1,5 @@
 -- A run of numbers as it is counted up: the first that passes a test, and all that pass it.
-use Rattle.std.proofs.Common.{◌≡◌, ℕ, zero, suc, ◌+◌, ◌-◌, ◌<◌, Bool, true, false, Option, Some, None}
+use Rattle.std.proofs.Common.{◌≡◌, ℕ, zero, suc, ◌+◌, ◌-◌, ◌<◌, ◌≤◌, Bool, true, false, Option, Some, None}
 use Rattle.std.proofs.Common.{List, ◌∷◌, ◌++◌, refl, sym, ap, subst, ◌∙◌, cond, arith}
 use Rattle.std.specs.Prelude.{filter}
 use Rattle.std.specs.List.{find}
@@ -23,6 +23,16 @@ pub find_here : (p : ℕ → Bool) (i n : ℕ) → i < n → p i ≡ true
 find_here p i n h hit =
     ap (λ (c : ℕ). find p (numbers_from i c)) (split i n h)
     ∙ ap (λ (b : Bool). cond b (Some i) (find p (numbers_from (i + 1) (n - (i + 1))))) hit
+
+-- its numbers begin
+pub find_begin : (p : ℕ → Bool) (n : ℕ)
+    → find p (numbers_from 0 n) ≡ find p (numbers_from 0 (n - 0))
+find_begin p n = let all : n ≡ n - 0 = omega arith in ap (λ (c : ℕ). find p (numbers_from 0 c)) all
+
+-- its numbers are at an end
+pub find_done : (p : ℕ → Bool) (i n : ℕ) → n ≤ i → find p (numbers_from i (n - i)) ≡ None
+find_done p i n h =
+    let none : n - i ≡ 0 = omega arith in ap (λ (c : ℕ). find p (numbers_from i c)) none
 
 pub filter_next : (p : ℕ → Bool) (i n : ℕ) → i < n → p i ≡ false
     → filter p (numbers_from i (n - i)) ≡ filter p (numbers_from (i + 1) (n - (i + 1)))

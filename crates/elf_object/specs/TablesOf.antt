@@ -1,9 +1,15 @@
 -- What is kept of a file without a fault beside its bytes.
-use Rattle.std.specs.Prelude.{◌≡◌, ℕ, ◌+◌, ◌*◌, ◌<◌, ◌≤◌, List, length, None}
-use Rattle.omos_model.specs.ElfFields.{section_bytes, sh_link, sh_offset, symbol_count}
+use Rattle.std.specs.Prelude.{◌≡◌, ℕ, ◌+◌, ◌*◌, ◌<◌, ◌≤◌, Bool, false, List, length, None}
+use Rattle.std.specs.Prelude.{slice_index_or}
+use Rattle.omos_model.specs.ElfFields.{e_shnum, section_bytes, sh_link, sh_offset, symbol_count}
 use Rattle.omos_model.specs.ElfFields.{symbol_table}
-use Rattle.omos_model.specs.ElfFaults.{object_fault}
+use Rattle.omos_model.specs.ElfFaults.{is_kept, object_fault}
 use Rattle.elf_object.specs.Stages.{HasHeaders}
+
+-- by a section's number whether it is kept; behind the last none is
+pub record AreKept (file : List ℕ) (kept : List Bool) : Type 0 where
+  pub all : length kept ≡ e_shnum file
+  pub each : (i : ℕ) → slice_index_or kept i false ≡ is_kept file i
 
 -- how many symbols there are, where symbol 0 begins, and their string table
 pub record AreSymbols (file : List ℕ) (count at : ℕ) (strings : List ℕ) : Type 0 where
@@ -12,7 +18,9 @@ pub record AreSymbols (file : List ℕ) (count at : ℕ) (strings : List ℕ) : 
   pub inside : at + 24 * count ≤ length file
   pub named : 0 < count → strings ≡ section_bytes file (sh_link file (symbol_table file))
 
-pub record AreTables (file : List ℕ) (count at : ℕ) (strings : List ℕ) : Type 0 where
+pub record AreTables (file : List ℕ) (kept : List Bool) (count at : ℕ) (strings : List ℕ)
+    : Type 0 where
   pub right : object_fault file ≡ None
   pub headers : HasHeaders file
+  pub sections : AreKept file kept
   pub symbols : AreSymbols file count at strings

@@ -1,6 +1,6 @@
 //! Which sections are loaded, and the faults of sections (System V gABI, chapter 4, "Sections").
 
-ghost use Rattle.std.specs.Prelude.{◌≡◌, ◌<◌, ◌≤◌, ◌/◌, ◌%◌, ◌==◌, [], ◌∷◌};
+ghost use Rattle.std.specs.Prelude.{◌≡◌, ◌<◌, ◌≤◌, ◌/◌, ◌%◌, ◌==◌, [], ◌∷◌, IfOk};
 ghost use Rattle.std.specs.List.{find, list_any};
 ghost use Rattle.omos_model.specs.ElfFields.{e_shnum, has_flag, is_section, sections};
 ghost use Rattle.omos_model.specs.ElfFaults.{is_alloc, is_kept, is_nobits, is_supported};
@@ -9,29 +9,14 @@ ghost use Rattle.omos_model.specs.ElfFaults.{loaded_types};
 ghost use Rattle.omos_model.specs.FragmentParts.{is_alignment};
 ghost use Rattle.elf_object.specs.Stages.{HasHeaders};
 ghost use Rattle.elf_object.specs.Checks.{fails};
+ghost use Rattle.elf_object.specs.TablesOf.{AreKept};
 
 use crate::reads::{count_of_sections, ends_within, section};
-
-const SHF_WRITE: u64 = 1;
-
-const SHF_ALLOC: u64 = 2;
-
-const SHF_EXECINSTR: u64 = 4;
-
-const SHF_TLS: u64 = 0x400;
-
-const SHF_COMPRESSED: u64 = 0x800;
-
-const SHT_NOBITS: u32 = 8;
-
-const SHT_REL: u32 = 9;
-
-const SHT_GROUP: u32 = 17;
-
-const SHT_SYMTAB_SHNDX: u32 = 18;
-
-/// PROGBITS, NOTE, NOBITS, INIT_ARRAY, FINI_ARRAY and X86_64_UNWIND.
-const LOADED_TYPES: [u32; 6] = [1, 7, 8, 14, 15, 0x7000_0001];
+use elf_words::values::{SHF_ALLOC, SHF_COMPRESSED, SHF_EXECINSTR, SHF_TLS, SHF_WRITE};
+use elf_words::values::{SHT_FINI_ARRAY, SHT_INIT_ARRAY, SHT_NOBITS, SHT_NOTE, SHT_PROGBITS};
+use elf_words::values::{SHT_GROUP, SHT_REL, SHT_SYMTAB_SHNDX, SHT_X86_64_UNWIND};
+use omos_base::{NoMemory, Row};
+use std::alloc::Global;
 
 /// The largest kept section, in bytes.
 const MAX_SIZE: u64 = 8_388_608;
@@ -50,7 +35,12 @@ fn has(flags: u64, flag: u64) -> bool
 fn is_loaded(sh_type: u32) -> bool
     ensures { result ≡ list_any (λ t. t == sh_type) loaded_types }
 {
-    LOADED_TYPES.iter().any(|t| *t == sh_type)
+    sh_type == SHT_PROGBITS
+        || sh_type == SHT_NOTE
+        || sh_type == SHT_NOBITS
+        || sh_type == SHT_INIT_ARRAY
+        || sh_type == SHT_FINI_ARRAY
+        || sh_type == SHT_X86_64_UNWIND
 }
 
 /// A power of two from 1 to 4,096.
@@ -91,12 +81,34 @@ fn is_supported(file: &[u8], i: usize) -> bool
             && (has(header.sh_flags, SHF_WRITE) || header.sh_type == SHT_NOBITS))
 }
 
-/// A section, by its number, that is loaded.
-pub(crate) fn is_kept(file: &[u8], i: usize) -> bool
+/// A section, by its number, that is loaded, as its header says it.
+fn is_loaded_section(file: &[u8], i: usize) -> bool
     requires { HasHeaders file.now }
     ensures { result ≡ is_kept file.now i }
 {
     is_section(file, i) && is_alloc(file, i) && is_supported(file, i)
+}
+
+/// By a section's number whether it is loaded, so that each header is tested once.
+pub(crate) fn kept_sections(alloc: Global, file: &[u8]) -> Result<Row<bool>, NoMemory>
+    requires { HasHeaders file.now }
+    ensures { IfOk result (λ kept. AreKept file.now kept) }
+{
+    let count = count_of_sections(file);
+    let mut kept = Row::from_vec(Vec::with_capacity(alloc, count)?);
+    for i in 0..count {
+        kept.push(is_loaded_section(file, i))?;
+    }
+    Ok(kept)
+}
+
+/// A section, by its number, that is loaded.
+#[tactic(auto, using(crate::proofs::KeptTable::kept_past))]
+pub(crate) fn is_kept(file: &[u8], kept: &[bool], i: usize) -> bool
+    requires { AreKept file.now kept.now }
+    ensures { result ≡ is_kept file.now i }
+{
+    i < kept.len() && kept[i]
 }
 
 /// A section that has no bytes in the file.
@@ -119,13 +131,14 @@ pub(crate) fn lies_in_file(file: &[u8], i: usize) -> bool
 }
 
 /// A kept section whose alignment, size or place is wrong.
-fn is_wrong_section(file: &[u8], i: usize) -> bool
+fn is_wrong_section(file: &[u8], kept: &[bool], i: usize) -> bool
     requires headers { HasHeaders file.now }
+    requires sections { AreKept file.now kept.now }
     requires there { i < e_shnum file.now }
     ensures { result ≡ is_wrong_section file.now i }
 {
     let header = section(file, i);
-    is_kept(file, i)
+    is_kept(file, kept, i)
         && (!(header.sh_addralign == 0 || is_alignment(header.sh_addralign))
             || MAX_SIZE < header.sh_size
             || (!is_nobits(file, i) && !lies_in_file(file, i)))
@@ -156,24 +169,26 @@ pub(crate) enum Check {
     Supported,
 }
 
-fn fails(check: Check, file: &[u8], i: usize) -> bool
+fn fails(check: Check, file: &[u8], kept: &[bool], i: usize) -> bool
     requires headers { HasHeaders file.now }
+    requires sections { AreKept file.now kept.now }
     requires there { i < e_shnum file.now }
     ensures { result ≡ fails check file.now i }
 {
     match check {
-        Check::Kept => is_wrong_section(file, i),
+        Check::Kept => is_wrong_section(file, kept, i),
         Check::Supported => is_unsupported(file, i),
     }
 }
 
 /// The first section that fails the check.
-pub(crate) fn first_failing(check: Check, file: &[u8]) -> Option<u32>
-    requires { HasHeaders file.now }
+pub(crate) fn first_failing(check: Check, file: &[u8], kept: &[bool]) -> Option<u32>
+    requires headers { HasHeaders file.now }
+    requires sections { AreKept file.now kept.now }
     ensures { result ≡ find (fails check file.now) (sections file.now) }
 {
     for i in 1..count_of_sections(file) {
-        if fails(check, file, i) {
+        if fails(check, file, kept, i) {
             return Some(i as u32);
         }
     }

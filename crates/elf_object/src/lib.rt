@@ -10,9 +10,11 @@ mod names;
 mod read;
 mod reads;
 mod relas;
+mod seen;
 mod symbols;
 mod symtab;
 mod tables;
 
+pub use entries::kind_of;
 pub use read::read_tables;
 pub use tables::Tables;

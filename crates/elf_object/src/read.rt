@@ -4,9 +4,9 @@ ghost use Rattle.std.specs.Prelude.{◌≡◌, Some, None, IfOk};
 ghost use Rattle.omos_base.specs.Fault.{MatchFault};
 ghost use Rattle.omos_model.specs.ElfFaults.{object_fault};
 ghost use Rattle.elf_object.specs.Stages.{HasHeaders, rela_fault, section_fault, symbol_fault};
-ghost use Rattle.elf_object.specs.TablesOf.{AreSymbols};
+ghost use Rattle.elf_object.specs.TablesOf.{AreKept, AreSymbols};
 
-use crate::kept::{Check, first_failing};
+use crate::kept::{Check, first_failing, kept_sections};
 use crate::reads::header_fault;
 use crate::symtab::{Symbols, symbols_of};
 use crate::tables::Tables;
@@ -15,14 +15,15 @@ use omos_base::{Fault, NoMemory};
 use omos_model::ObjectFault;
 use std::alloc::Global;
 
-fn section_fault(file: &[u8]) -> Option<ObjectFault>
-    requires { HasHeaders file.now }
+fn section_fault(file: &[u8], kept: &[bool]) -> Option<ObjectFault>
+    requires headers { HasHeaders file.now }
+    requires sections { AreKept file.now kept.now }
     ensures { result ≡ section_fault file.now }
 {
-    if let Some(i) = first_failing(Check::Kept, file) {
+    if let Some(i) = first_failing(Check::Kept, file, kept) {
         return Some(ObjectFault::Section(i));
     }
-    match first_failing(Check::Supported, file) {
+    match first_failing(Check::Supported, file, kept) {
         Some(i) => Some(ObjectFault::Unsupported(i)),
         None => None,
     }
@@ -31,27 +32,30 @@ fn section_fault(file: &[u8]) -> Option<ObjectFault>
 fn symbol_fault(
     alloc: Global,
     file: &[u8],
+    kept: &[bool],
     table: Symbols<'_>,
 ) -> Result<Option<ObjectFault>, NoMemory>
     requires headers { HasHeaders file.now }
+    requires sections { AreKept file.now kept.now }
     requires right { AreSymbols file.now table.count table.at table.strings.now }
     ensures { IfOk result (λ x. x ≡ symbol_fault file.now) }
 {
-    if let Some(k) = symbols::first_wrong(file, table) {
+    if let Some(k) = symbols::first_wrong(file, kept, table) {
         return Ok(Some(ObjectFault::Symbol(k)));
     }
     exports::twice(alloc, file, table)
 }
 
-fn rela_fault(file: &[u8], table: Symbols<'_>) -> Option<ObjectFault>
+fn rela_fault(file: &[u8], kept: &[bool], table: Symbols<'_>) -> Option<ObjectFault>
     requires headers { HasHeaders file.now }
+    requires sections { AreKept file.now kept.now }
     requires right { AreSymbols file.now table.count table.at table.strings.now }
     ensures { result ≡ rela_fault file.now }
 {
-    if let Some(i) = relas::first_wrong(file) {
+    if let Some(i) = relas::first_wrong(file, kept) {
         return Some(ObjectFault::Relas(i));
     }
-    match entries::first_wrong(file, table) {
+    match entries::first_wrong(file, kept, table) {
         Some((i, j)) => Some(ObjectFault::Rela(i, j)),
         None => None,
     }
@@ -72,18 +76,19 @@ pub fn read_tables(alloc: Global, file: &[u8]) -> Result<Tables<'_>, Fault<Objec
     if let Some(fault) = header_fault(file) {
         return Err(Fault::Refused(fault));
     }
-    if let Some(fault) = section_fault(file) {
+    let kept = kept_sections(alloc, file)?;
+    if let Some(fault) = section_fault(file, kept.as_slice()) {
         return Err(Fault::Refused(fault));
     }
     let table = match symbols_of(file) {
         Ok(table) => table,
         Err(fault) => return Err(Fault::Refused(fault)),
     };
-    if let Some(fault) = symbol_fault(alloc, file, table)? {
+    if let Some(fault) = symbol_fault(alloc, file, kept.as_slice(), table)? {
         return Err(Fault::Refused(fault));
     }
-    if let Some(fault) = rela_fault(file, table) {
+    if let Some(fault) = rela_fault(file, kept.as_slice(), table) {
         return Err(Fault::Refused(fault));
     }
-    Ok(Tables::of(file, table))
+    Ok(Tables::of(file, kept, table))
 }

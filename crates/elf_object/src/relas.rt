@@ -8,12 +8,12 @@ ghost use Rattle.omos_model.specs.ElfFaults.{entries_up_to, entry_count, is_righ
 ghost use Rattle.omos_model.specs.ElfFaults.{is_used_rela};
 ghost use Rattle.omos_model.specs.ElfFaults.{is_wrong_rela};
 ghost use Rattle.elf_object.specs.Stages.{HasHeaders};
+ghost use Rattle.elf_object.specs.TablesOf.{AreKept};
 
 use crate::kept::{is_kept, is_nobits, lies_in_file};
 use crate::reads::{count_of_sections, section};
 use crate::symtab::is_symtab;
-
-const SHT_RELA: u32 = 4;
+use elf_words::values::SHT_RELA;
 
 /// The size of a relocation.
 pub(crate) const RELA_SIZE: u64 = 24;
@@ -21,13 +21,14 @@ pub(crate) const RELA_SIZE: u64 = 24;
 const MAX_ENTRIES: u64 = 65_535;
 
 /// A relocation section whose target is kept.
-pub(crate) fn is_used(file: &[u8], i: usize) -> bool
+pub(crate) fn is_used(file: &[u8], kept: &[bool], i: usize) -> bool
     requires headers { HasHeaders file.now }
+    requires sections { AreKept file.now kept.now }
     requires there { i < e_shnum file.now }
     ensures { result ≡ is_used_rela file.now i }
 {
     let header = section(file, i);
-    header.sh_type == SHT_RELA && is_kept(file, header.sh_info as usize)
+    header.sh_type == SHT_RELA && is_kept(file, kept, header.sh_info as usize)
 }
 
 /// The relocations of a kept section can be read, and with those of the sections before they are
@@ -50,8 +51,9 @@ fn is_right_rela(file: &[u8], i: usize, before: u64) -> bool
 }
 
 /// The entries of the used sections up to and with this one; none where it is wrong.
-fn entries_after(file: &[u8], i: usize, before: u64) -> Option<u64>
+fn entries_after(file: &[u8], kept: &[bool], i: usize, before: u64) -> Option<u64>
     requires headers { HasHeaders file.now }
+    requires sections { AreKept file.now kept.now }
     requires counted { 1 ≤ i }
     requires there { i < e_shnum file.now }
     requires few { before ≤ 65535 }
@@ -67,7 +69,7 @@ fn entries_after(file: &[u8], i: usize, before: u64) -> Option<u64>
     if header.sh_info as usize >= count_of_sections(file) {
         return None;
     }
-    if !is_kept(file, header.sh_info as usize) {
+    if !is_kept(file, kept, header.sh_info as usize) {
         return Some(before);
     }
     if !is_right_rela(file, i, before) {
@@ -77,13 +79,14 @@ fn entries_after(file: &[u8], i: usize, before: u64) -> Option<u64>
 }
 
 /// The first section that is wrong.
-pub(crate) fn first_wrong(file: &[u8]) -> Option<u32>
-    requires { HasHeaders file.now }
+pub(crate) fn first_wrong(file: &[u8], kept: &[bool]) -> Option<u32>
+    requires headers { HasHeaders file.now }
+    requires sections { AreKept file.now kept.now }
     ensures { result ≡ find (is_wrong_rela file.now) (sections file.now) }
 {
     let mut entries = 0;
     for i in 1..count_of_sections(file) {
-        match entries_after(file, i, entries) {
+        match entries_after(file, kept, i, entries) {
             Some(sum) => entries = sum,
             None => return Some(i as u32),
         }

@@ -10,27 +10,14 @@ ghost use Rattle.omos_model.specs.ElfFields.{st_info, symbol_at, symbols};
 ghost use Rattle.omos_model.specs.ElfFaults.{abs, common, is_kept, is_wrong_symbol, undef};
 ghost use Rattle.elf_words.specs.Sym.{sym_at};
 ghost use Rattle.elf_object.specs.Stages.{HasHeaders};
-ghost use Rattle.elf_object.specs.TablesOf.{AreSymbols};
+ghost use Rattle.elf_object.specs.TablesOf.{AreKept, AreSymbols};
 
 use crate::kept::{is_alignment, is_kept, is_section};
 use crate::names::{begins_with_name, rest_from, until_zero};
 use crate::reads::section;
 use crate::symtab::Symbols;
+use elf_words::values::{SHN_ABS, SHN_COMMON, SHN_UNDEF, STB_GLOBAL, STB_LOCAL, STB_WEAK, STT_COMMON};
 use elf_words::{Record, Sym};
-
-pub(crate) const STB_LOCAL: u8 = 0;
-
-pub(crate) const STB_GLOBAL: u8 = 1;
-
-pub(crate) const STB_WEAK: u8 = 2;
-
-const STT_COMMON: u8 = 5;
-
-pub(crate) const SHN_UNDEF: u16 = 0;
-
-const SHN_ABS: u16 = 0xfff1;
-
-const SHN_COMMON: u16 = 0xfff2;
 
 /// The largest common symbol, in bytes.
 const MAX_SIZE: u64 = 8_388_608;
@@ -75,12 +62,13 @@ fn has_right_section(file: &[u8], binding: u8, index: u16) -> bool
 }
 
 /// Within a kept section; a name of other objects' isn't of a section that isn't kept.
-fn has_right_value(file: &[u8], is_named: bool, index: u16, value: u64) -> bool
-    requires { HasHeaders file.now }
+fn has_right_value(file: &[u8], kept: &[bool], is_named: bool, index: u16, value: u64) -> bool
+    requires headers { HasHeaders file.now }
+    requires sections { AreKept file.now kept.now }
     ensures { result ≡ ((not (is_kept file.now index) || nat_le value (sh_size file.now index))
         && not (is_named && (is_section file.now index && not (is_kept file.now index)))) }
 {
-    if is_kept(file, index as usize) {
+    if is_kept(file, kept, index as usize) {
         value <= section(file, index as usize).sh_size
     } else {
         !(is_named && is_section(file, index as usize))
@@ -105,8 +93,9 @@ fn has_right_name(table: Symbols<'_>, is_named: bool, st_name: u32) -> bool
 }
 
 /// A symbol that is wrong by itself, whatever other symbols there are.
-fn is_wrong_symbol(file: &[u8], table: Symbols<'_>, k: u32) -> bool
+fn is_wrong_symbol(file: &[u8], kept: &[bool], table: Symbols<'_>, k: u32) -> bool
     requires headers { HasHeaders file.now }
+    requires sections { AreKept file.now kept.now }
     requires right { AreSymbols file.now table.count table.at table.strings.now }
     requires there { k < table.count }
     ensures { result ≡ is_wrong_symbol file.now k }
@@ -116,19 +105,20 @@ fn is_wrong_symbol(file: &[u8], table: Symbols<'_>, k: u32) -> bool
     let is_named = binding == STB_GLOBAL || binding == STB_WEAK;
     !(has_right_info(symbol.st_info)
         && has_right_section(file, binding, symbol.st_shndx)
-        && has_right_value(file, is_named, symbol.st_shndx, symbol.st_value)
+        && has_right_value(file, kept, is_named, symbol.st_shndx, symbol.st_value)
         && has_right_common(symbol.st_shndx, symbol.st_value, symbol.st_size)
         && has_right_name(table, is_named, symbol.st_name))
 }
 
 /// The first symbol that is wrong.
-pub(crate) fn first_wrong(file: &[u8], table: Symbols<'_>) -> Option<u32>
+pub(crate) fn first_wrong(file: &[u8], kept: &[bool], table: Symbols<'_>) -> Option<u32>
     requires headers { HasHeaders file.now }
+    requires sections { AreKept file.now kept.now }
     requires right { AreSymbols file.now table.count table.at table.strings.now }
     ensures { result ≡ find (is_wrong_symbol file.now) (symbols file.now) }
 {
     for k in 1..table.count {
-        if is_wrong_symbol(file, table, k) {
+        if is_wrong_symbol(file, kept, table, k) {
             return Some(k);
         }
     }

@@ -11,11 +11,8 @@ ghost use Rattle.elf_object.specs.TablesOf.{AreSymbols};
 
 use crate::kept::{is_section, lies_in_file};
 use crate::reads::{bytes_of, count_of_sections, section};
+use elf_words::values::{SHT_STRTAB, SHT_SYMTAB};
 use omos_model::ObjectFault;
-
-const SHT_SYMTAB: u32 = 2;
-
-const SHT_STRTAB: u32 = 3;
 
 /// The size of a symbol.
 const SYM_SIZE: u64 = 24;

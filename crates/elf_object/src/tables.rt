@@ -1,15 +1,14 @@
 //! The tables of an object file without a fault.
 
-ghost use Rattle.std.specs.Prelude.{◌≡◌, ◌+◌, ◌*◌, ◌/◌, ◌<◌, ◌≤◌, ◌==◌, [], None, IsTrue};
+ghost use Rattle.std.specs.Prelude.{◌≡◌, ◌+◌, ◌*◌, ◌/◌, ◌<◌, ◌≤◌, ◌==◌, [], None, IsTrue, length};
 ghost use Rattle.std.specs.Prelude.{if◌then◌else◌};
 ghost use Rattle.omos_base.specs.Fault.{MatchFault};
 ghost use Rattle.omos_model.specs.Names.{is_symbol_name};
-ghost use Rattle.omos_model.specs.ElfFields.{e_shnum, entry_at, header_at, name_of, section_bytes};
+ghost use Rattle.omos_model.specs.ElfFields.{e_shnum, header_at, name_of, section_bytes, sh_offset};
 ghost use Rattle.omos_model.specs.ElfFields.{is_section, st_info, symbol_at, symbol_count};
 ghost use Rattle.omos_model.specs.ElfFaults.{entry_count, has_name, is_kept, is_nobits};
 ghost use Rattle.omos_model.specs.ElfFaults.{is_used_rela};
 ghost use Rattle.omos_model.specs.ElfFaults.{object_fault};
-ghost use Rattle.elf_words.specs.Rela.{rela_at};
 ghost use Rattle.elf_words.specs.Shdr.{shdr_at};
 ghost use Rattle.elf_words.specs.Sym.{sym_at};
 ghost use Rattle.elf_object.specs.TablesOf.{AreTables};
@@ -19,7 +18,8 @@ use crate::reads::{bytes_of, count_of_sections, section};
 use crate::relas::{RELA_SIZE, is_used};
 use crate::symbols::{name, symbol};
 use crate::symtab::Symbols;
-use elf_words::{Record, Rela, Shdr, Sym};
+use elf_words::{Shdr, Sym};
+use omos_base::Row;
 use std::marker::Model;
 
 /// The tables of an object file without a fault, that contracts see as the file's bytes. They
@@ -27,6 +27,8 @@ use std::marker::Model;
 #[derive(Drop)]
 pub struct Tables<'a> {
     file: &'a [u8],
+    /// By a section's number whether it is kept.
+    kept: Row<bool>,
     symbols: Symbols<'a>,
 }
 
@@ -40,16 +42,20 @@ impl<'a> Model for Tables<'a> {
     ghost view = { λ t. t.file.now };
 
     ghost invariant = { λ t.
-        AreTables t.file.now t.symbols.count t.symbols.at t.symbols.strings.now };
+        AreTables t.file.now t.kept t.symbols.count t.symbols.at t.symbols.strings.now };
 }
 
 impl<'a> Tables<'a> {
     /// The tables of a file that was found to have no fault.
-    pub(crate) fn of(file: &'a [u8], symbols: Symbols<'a>) -> Tables<'a>
-        requires { AreTables file.now symbols.count symbols.at symbols.strings.now }
+    pub(crate) fn of(file: &'a [u8], kept: Row<bool>, symbols: Symbols<'a>) -> Tables<'a>
+        requires { AreTables file.now kept symbols.count symbols.at symbols.strings.now }
         ensures { result ≡ file.now }
     {
-        Tables { file, symbols }
+        Tables {
+            file,
+            kept,
+            symbols,
+        }
     }
 }
 
@@ -83,7 +89,7 @@ impl Tables<'_> {
     pub fn kept(&self, i: u32) -> bool
         ensures { result ≡ is_kept self.now i }
     {
-        is_kept(self.file, i as usize)
+        is_kept(self.file, self.kept.as_slice(), i as usize)
     }
 
     /// The bytes of a kept section, none where it is NOBITS.
@@ -131,7 +137,7 @@ impl Tables<'_> {
         requires { i < e_shnum self.now }
         ensures { result ≡ is_used_rela self.now i }
     {
-        is_used(self.file, i as usize)
+        is_used(self.file, self.kept.as_slice(), i as usize)
     }
 
     /// How many relocations there are in a section that has those of a kept section.
@@ -143,14 +149,14 @@ impl Tables<'_> {
         (section(self.file, i as usize).sh_size / RELA_SIZE) as u32
     }
 
-    /// A relocation, by its section and its number in that.
-    pub fn entry(&self, i: u32, j: u32) -> Rela
+    /// Where the relocations of a section that has those of a kept section begin in the file.
+    pub fn entries_at(&self, i: u32) -> usize
         requires there { IsTrue (is_section self.now i) }
         requires used { IsTrue (is_used_rela self.now i) }
-        requires within { j < entry_count self.now i }
-        ensures { result ≡ rela_at self.now (entry_at self.now i j) }
+        ensures place { result ≡ sh_offset self.now i }
+        ensures inside { result + 24 * entry_count self.now i ≤ length self.now }
+        ensures small { length self.now ≤ 1048576 }
     {
-        let at = section(self.file, i as usize).sh_offset as usize;
-        Rela::read_at(self.file, at + 24 * j as usize)
+        section(self.file, i as usize).sh_offset as usize
     }
 }

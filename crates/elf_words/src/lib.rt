@@ -13,6 +13,7 @@ mod record;
 mod rela;
 mod shdr;
 mod sym;
+pub mod values;
 
 pub use ehdr::Ehdr;
 pub use phdr::Phdr;

@@ -1,9 +1,6 @@
 -- Runs of numbers as they grow by one.
 use Rattle.std.proofs.Common.{◌≡◌, ℕ, zero, suc, ◌+◌, ◌-◌, ◌<◌, ◌≤◌, Bool, true, false, List, [], ◌∷◌, ◌++◌, Option, None}
 use Rattle.std.proofs.Common.{refl, sym, ap, ◌∙◌, cond, get_or, length, map, arith}
-use borrow.Author.Count.{below_more}
-use Rattle.std.proofs.Math.ListN.{get_or-append}
-use Rattle.std.proofs.Math.Seq.{get_or-append_seam}
 use Rattle.std.specs.Prelude.{filter}
 use Rattle.std.proofs.lemmas.List.{append-nil, map-append}
 use Rattle.std.specs.List.{cons_option, count_by, filter_map, flat_map}
@@ -66,15 +63,6 @@ pub section_piece_more : (file : List ℕ) (i : ℕ)
     → section_piece file (i + 1) ≡ section_piece file i + cond (is_kept file i) 1 0
 section_piece_more file zero = refl
 section_piece_more file (suc n) = count_more (is_kept file) (suc n) (omega arith)
-
--- each number of a list that grows by what the next index has
-pub each_more : (f : ℕ → ℕ) (xs : List ℕ) (i x : ℕ) → length xs ≡ i
-    → ((k : ℕ) → k < i → get_or xs k 0 ≡ f k) → x ≡ f i
-    → (k : ℕ) → k < i + 1 → get_or (xs ++ x ∷ []) k 0 ≡ f k
-each_more f xs i x same before here =
-    below_more (λ k. get_or (xs ++ x ∷ []) k 0 ≡ f k) i
-    (λ k h. get_or-append xs (x ∷ []) 0 k (omega (arith, h, same)) ∙ before k h)
-    (ap (λ n. get_or (xs ++ x ∷ []) n 0) (sym same) ∙ get_or-append_seam xs x [] 0 ∙ here)
 
 pub common_piece_more : (file : List ℕ) (k : ℕ) → 1 ≤ k
     → common_piece file (k + 1) ≡ common_piece file k + cond (is_common file k) 1 0

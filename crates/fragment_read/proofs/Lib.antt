@@ -1,4 +1,5 @@
 pub mod Right
 pub mod Counted
+pub mod Made
 pub mod Named
 pub mod Whole

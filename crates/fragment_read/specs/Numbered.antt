@@ -1,12 +1,15 @@
 -- Tables by number that are made from an object file.
-use Rattle.std.specs.Prelude.{◌≡◌, ℕ, ◌<◌, ◌≤◌, ◌==◌, ◌||◌, Bool, List, length, slice_index, Option}
+use Rattle.std.specs.Prelude.{◌≡◌, ℕ, ℤ, ◌<◌, ◌≤◌, ◌==◌, ◌||◌, Bool, List, length, slice_index, Option}
 use Rattle.std.specs.Prelude.{Some, None, if◌then◌else◌}
 use Rattle.std.specs.List.{slice_get}
 use Rattle.omos_model.specs.Names.{Name}
 use Rattle.omos_model.specs.ElfFields.{e_shnum, name_of, st_shndx, symbol_count}
 use Rattle.omos_model.specs.ElfFaults.{abs, has_name, is_kept}
 use Rattle.omos_model.specs.FragmentOf.{is_common, section_piece, spot_of}
+use Rattle.omos_model.specs.declared.fragment.Aim.{Aim}
 use Rattle.omos_model.specs.declared.fragment.Export.{Export}
+use Rattle.omos_model.specs.declared.fragment.Fixup.{Fixup}
+use Rattle.omos_model.specs.declared.fragment.Kind.{Kind}
 
 -- the number of the piece of each section: as many kept sections stand before it
 pub record ArePieceNumbers (file : List ℕ) (numbers : List ℕ) : Type 0 where
@@ -19,6 +22,10 @@ is_placed file k = (st_shndx file k == abs) || is_common file k || is_kept file 
 
 abbrev pub export_of : List ℕ → ℕ → Export
 export_of file k = record { name = name_of file k; spot = spot_of file k }
+
+abbrev pub fixup_with : ℕ → ℕ → ℤ → Aim → Kind → Fixup
+fixup_with piece offset addend aim kind =
+    record { piece = piece; offset = offset; kind = kind; addend = addend; aim = aim }
 
 -- the name of a symbol that has one
 abbrev pub name_if : List ℕ → ℕ → Option Name

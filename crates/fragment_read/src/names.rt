@@ -48,7 +48,7 @@ pub(crate) fn names(alloc: Global, tables: &Tables<'_>) -> Result<Row<Option<Sym
     requires { object_fault tables.now ≡ None }
     ensures { IfOk result (λ names. AreNames tables.now names) }
 {
-    let mut names = Row::new(alloc);
+    let mut names = Row::from_vec(Vec::with_capacity(alloc, tables.symbols() as usize)?);
     if tables.symbols() == 0 {
         return Ok(names);
     }

@@ -14,7 +14,7 @@ pub(crate) fn piece_numbers(alloc: Global, tables: &Tables<'_>) -> Result<Row<u3
     requires { object_fault tables.now ≡ None }
     ensures { IfOk result (λ numbers. ArePieceNumbers tables.now numbers) }
 {
-    let mut numbers = Row::new(alloc);
+    let mut numbers = Row::from_vec(Vec::with_capacity(alloc, tables.sections() as usize)?);
     let mut count = 0u32;
     for i in 0..tables.sections() {
         numbers.push(count)?;

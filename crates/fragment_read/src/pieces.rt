@@ -9,15 +9,10 @@ ghost use Rattle.omos_model.specs.FragmentOf.{piece_of_common, piece_of_section,
 
 use crate::symbols::is_common;
 use elf_object::Tables;
+use elf_words::values::{SHF_EXECINSTR, SHF_WRITE, SHT_NOBITS};
 use omos_base::{Bytes, NoMemory, Row};
 use omos_model::{Group, Piece};
 use std::alloc::Global;
-
-const SHT_NOBITS: u32 = 8;
-
-const SHF_WRITE: u64 = 1;
-
-const SHF_EXECINSTR: u64 = 4;
 
 /// The flag, which is a power of two, is set.
 fn has(flags: u64, flag: u64) -> bool

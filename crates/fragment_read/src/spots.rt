@@ -6,8 +6,8 @@ ghost use Rattle.omos_model.specs.ElfFaults.{object_fault};
 ghost use Rattle.omos_model.specs.FragmentOf.{common_piece, is_common, spot_of};
 ghost use Rattle.fragment_read.specs.Numbered.{ArePieceNumbers, is_placed};
 
-use crate::symbols::{SHN_ABS, SHN_COMMON};
 use elf_object::Tables;
+use elf_words::values::{SHN_ABS, SHN_COMMON};
 use omos_model::Spot;
 
 /// The spot of a symbol that has one, where a common symbol's piece is given.

@@ -6,18 +6,7 @@ ghost use Rattle.omos_model.specs.ElfFaults.{has_name, is_export, is_local};
 ghost use Rattle.omos_model.specs.FragmentOf.{is_common};
 
 use elf_object::Tables;
-
-pub(crate) const SHN_UNDEF: u16 = 0;
-
-pub(crate) const SHN_ABS: u16 = 0xfff1;
-
-pub(crate) const SHN_COMMON: u16 = 0xfff2;
-
-const STB_LOCAL: u8 = 0;
-
-const STB_GLOBAL: u8 = 1;
-
-pub(crate) const STB_WEAK: u8 = 2;
+use elf_words::values::{SHN_COMMON, SHN_UNDEF, STB_GLOBAL, STB_LOCAL, STB_WEAK};
 
 /// The binding of a symbol.
 #[tactic(auto, unfolding(omos_base::specs::Fields::number_at))]

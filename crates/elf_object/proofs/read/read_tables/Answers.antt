@@ -59,5 +59,6 @@ of-requires c =
           ∙ pass (symbol_fault file) _ (sym c.in_default-2.is ∙ c.in_ok-fault.ensures)
           ∙ sym c.in_default-rela_fault.ensures;
       headers = c.in_default.ensures;
+      sections = c.in_ok-kept.ensures;
       symbols = c.in-Ok.ensures.0;
     }

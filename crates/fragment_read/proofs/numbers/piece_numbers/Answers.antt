@@ -2,7 +2,8 @@ use Rattle.std.proofs.Common.{◌≡◌, ◌+◌, ◌∷◌, [], Bool, true, fal
 use Rattle.omos_model.specs.ElfFaults.{is_kept}
 use Rattle.omos_model.specs.ElfFields.{e_shnum}
 use Rattle.omos_model.specs.FragmentOf.{section_piece}
-use Rattle.fragment_read.proofs.Counted.{each_more, section_piece_more}
+use Rattle.elf_object.proofs.KeptTable.{each_more}
+use Rattle.fragment_read.proofs.Counted.{section_piece_more}
 use Rattle.fragment_read.proofs.numbers.piece_numbers.Goals as goal
 use Rattle.fragment_read.proofs.numbers.piece_numbers.Goals.{then-kept, else-kept}
 
@@ -19,7 +20,7 @@ loop-i-preserved c =
       all = omega (arith, grown, h.all);
       each = λ k less.
           ap (λ xs. get_or xs k 0) c.in_ok-push.ensures.added
-          ∙ each_more (section_piece file) c.loop-i.numbers i c.loop-i.count h.all h.each h.count k less;
+          ∙ each_more 0 (section_piece file) c.loop-i.numbers i c.loop-i.count h.all h.each h.count k less;
       count = elim c.if-kept.branch [
         | then-kept w ↦ w.count-is ∙ sym (counted true (sym c.kept.ensures ∙ w.if-kept.true))
         | else-kept w ↦ w.count-is ∙ omega (arith, counted false (sym c.kept.ensures ∙ w.if-kept.false))
