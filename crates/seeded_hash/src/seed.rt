@@ -2,15 +2,17 @@
 
 ghost use Rattle.std.specs.Prelude.{◌≡◌};
 
+use crate::hasher::NameHasher;
+use omos_base::u64_at;
 use std::fmt::{self, Debug, Formatter};
-use std::hash::{BuildHasher, FoldHasher, Hasher};
+use std::hash::BuildHasher;
 use std::io;
 use std::random::RandomSource;
 
 /// What each hash of a table begins with. A copy of a seed makes the same hashes.
 #[derive(Clone, Copy)]
 pub struct Seed {
-    primed: FoldHasher,
+    start: NameHasher,
 }
 
 impl Seed {
@@ -18,27 +20,25 @@ impl Seed {
     pub fn draw(rt: &impl RandomSource) -> io::Result<Seed> {
         let mut secret = [0; 16];
         rt.fill_bytes(&mut secret)?;
-        let mut primed = FoldHasher::default();
-        primed.write(&secret);
-        Ok(Seed { primed })
+        let start = NameHasher::new(u64_at(&secret, 0), u64_at(&secret, 8));
+        Ok(Seed { start })
     }
 
     /// The seed of a number, for tests and for programs that run cases. Never for a server: whoever
     /// knows the number can choose names whose hashes are all alike.
     pub fn known(number: u64) -> Seed {
-        let mut primed = FoldHasher::default();
-        primed.write_u64(number);
-        Seed { primed }
+        let start = NameHasher::new(number, number ^ 0x5bd1_e995_9d1b_54a5);
+        Seed { start }
     }
 }
 
 impl BuildHasher for Seed {
-    type Hasher = FoldHasher;
+    type Hasher = NameHasher;
 
-    ghost build_hasher = { λ seed. seed.primed };
+    ghost build_hasher = { λ seed. seed.start };
 
-    fn build_hasher(&self) -> FoldHasher {
-        self.primed
+    fn build_hasher(&self) -> NameHasher {
+        self.start
     }
 }
 
