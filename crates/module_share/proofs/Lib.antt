@@ -5,3 +5,4 @@ pub mod Growth
 pub mod Twice
 pub mod Elsewhere
 pub mod Fronts
+pub mod Named
