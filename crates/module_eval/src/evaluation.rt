@@ -26,6 +26,7 @@ use name_tree::Snap;
 use omos_base::{Fault, NoMemory, PathName};
 use omos_model::{Refusal, Stamped};
 use sqlite_items::Items;
+use seeded_hash::Seed;
 use std::alloc::Global;
 use std::sync::ledger::Ledger;
 
@@ -57,7 +58,7 @@ fn finish(
     snap: &Snap,
     path: &PathName,
     table: &Table,
-    read: &IndexMap<ReadPath, &Stamped>,
+    read: &IndexMap<ReadPath, &Stamped, Seed>,
 ) -> Result<Evaluated, NoMemory>
     requires built { IsBuiltOn snap.now.entries path.now table.now (keys_of read.now.entries) }
     requires found { AreFound snap.now.entries read.now.entries }
@@ -92,8 +93,9 @@ pub fn evaluate<L: Ledger>(
         (IsEvaluatedOn snap.now.entries path.now)
         (λ x. refusal_of (expansion snap.now.entries path.now) ≡ Some x) }
 {
-    let mut memo = Memo::new(alloc);
-    let mut counts = Counts::new(alloc);
+    let seed = snap.seed();
+    let mut memo = Memo::new(alloc, seed);
+    let mut counts = Counts::new(alloc, seed);
     match expand(alloc, snap, path, &mut memo, &mut counts, steps) {
         Ok(part) => match built(alloc, part)? {
             Some(Ok(table)) => { Ok(finish(alloc, snap, path, table.get(), &counts.read)?) }

@@ -16,6 +16,7 @@ use indexmap::IndexMap;
 use module_share::SharedTable;
 use omos_base::{NoMemory, PathName};
 use omos_model::Refusal;
+use seeded_hash::Seed;
 use sqlite_items::Boxed;
 use std::alloc::Global;
 
@@ -30,7 +31,7 @@ pub struct Kept {
 /// What became of each blueprint that was gone through, but for the requested one.
 #[derive(Drop)]
 pub struct Memo<'a> {
-    kept: IndexMap<ReadPath<'a>, Kept>,
+    kept: IndexMap<ReadPath<'a>, Kept, Seed>,
 }
 
 impl Kept {
@@ -74,12 +75,12 @@ impl Kept {
 
 impl<'a> Memo<'a> {
     /// Nothing is kept yet.
-    pub fn new(alloc: Global) -> Memo<'a>
+    pub fn new(alloc: Global, seed: Seed) -> Memo<'a>
         ensures kept { (ns : Space) → AreKept ns result.kept.entries }
         ensures none { result.kept.entries ≡ [] }
     {
         Memo {
-            kept: IndexMap::new(alloc),
+            kept: IndexMap::with_hasher(alloc, seed),
         }
     }
 

@@ -51,5 +51,5 @@ pub fn visit_object<'a>(
     if counting {
         return Ok(Part::Counted);
     }
-    Ok(Part::Leaf(Leaf::of(number, found.entry.twin()?)))
+    Ok(Part::Leaf(Leaf::of(counts.seed(), number, found.entry.twin()?)))
 }

@@ -8,13 +8,14 @@ ghost use Rattle.module_share.specs.Shifted.{shifted_target};
 
 use crate::numbers;
 use indexmap::IndexMap;
+use module_table::Definitions;
 use omos_base::{NoMemory, SymName};
 use omos_model::Target;
 use std::alloc::Global;
 
 /// Puts one definition, whose name is shared.
 fn put(
-    into: &mut IndexMap<SymName, Target>,
+    into: &mut Definitions,
     name: &SymName,
     target: Target,
     shift: u32,
@@ -28,15 +29,11 @@ fn put(
 }
 
 /// The definitions, in leaves of raised numbers.
-pub fn raised(
-    alloc: Global,
-    from: &IndexMap<SymName, Target>,
-    shift: u32,
-) -> Result<IndexMap<SymName, Target>, NoMemory>
+pub fn raised(alloc: Global, from: &Definitions, shift: u32) -> Result<Definitions, NoMemory>
     ensures { IfOk result (λ m. (n : Name) → held m.entries n
         ≡ option_map (shifted_target shift) (held from.now.entries n)) }
 {
-    let mut into = IndexMap::with_capacity(alloc, from.len())?;
+    let mut into = IndexMap::with_capacity_and_hasher(alloc, from.len(), *from.hasher())?;
     'entries: for (name, target) in from {
         put(&mut into, name, *target, shift)?;
     }
