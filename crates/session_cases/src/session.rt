@@ -12,7 +12,7 @@ use std::alloc::Global;
 const SHORT: usize = 20_000;
 
 /// How long one may be that is also cut at each byte, and whose calls fail one after the other.
-const BRIEF: usize = 2_500;
+const BRIEF: usize = 2_000;
 
 /// A request, how often it stands in the stream, and the reply that is wanted each time, or none.
 #[derive(Clone, Copy)]
