@@ -18,14 +18,15 @@ pub(crate) struct Outcome {
     pub(crate) sink: MemorySink,
 }
 
-/// How a stream is read and the replies are written: how many bytes a call takes at most, and the
-/// call that fails, counted from 1, or 0 where none does.
+/// How a stream is read and the replies are written: how many bytes a call takes at most, the call
+/// that fails, counted from 1, or 0 where none does, and how many bytes there may be in all.
 #[derive(Clone, Copy)]
 pub(crate) struct Way {
     pub(crate) read_step: u32,
     pub(crate) failing_read: u32,
     pub(crate) write_step: u32,
     pub(crate) failing_write: u32,
+    pub(crate) room: u32,
 }
 
 /// The call that fails by `read CALL` or `write CALL`, if the fault is of this kind, or 0.
@@ -44,6 +45,7 @@ impl Way {
             failing_read: call_of(fault, "read")?,
             write_step: ROOM,
             failing_write: call_of(fault, "write")?,
+            room: ROOM,
         })
     }
 }
@@ -70,7 +72,7 @@ fn sink_of(alloc: Global, way: Way) -> Result<MemorySink> {
     if way.write_step == 0 {
         bail!("a write takes at least a byte");
     }
-    Ok(MemorySink::new(alloc, ROOM, way.write_step, failing(alloc, way.failing_write)?)?)
+    Ok(MemorySink::new(alloc, way.room, way.write_step, failing(alloc, way.failing_write)?)?)
 }
 
 /// Runs the words over a stream.

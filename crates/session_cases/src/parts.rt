@@ -8,6 +8,16 @@ use std::alloc::Global;
 /// How long replies may be that are written byte by byte, each write failing in turn.
 const FEW: usize = 500;
 
+/// How many bytes the replies of a brief session may have.
+const ROOM: u32 = 1_000_000;
+
+/// All at once, with room for the replies of a brief session.
+fn brief() -> Result<Way> {
+    let mut way = Way::with("")?;
+    way.room = ROOM;
+    Ok(way)
+}
+
 /// What a run over the first bytes of a stream has to come to: whether it ends between two frames or
 /// behind the end, and how many bytes of the whole run's replies it writes. Each whole frame has one
 /// reply, and none behind the end has any.
@@ -48,7 +58,7 @@ fn ends_when_cut(
 ) -> Result<bool> {
     let (is_between, written) = wanted_of(stream, replies, bytes);
     let front = stream.get(..bytes).unwrap_or(stream);
-    let outcome = outcome_of(alloc, words, front, Way::with("")?)?;
+    let outcome = outcome_of(alloc, words, front, brief()?)?;
     let status = if is_between { 0 } else { 5 };
     Ok(is_part(&outcome, status, replies, written))
 }
@@ -62,7 +72,7 @@ fn ends_when_unread(
     replies: &[u8],
     bytes: usize,
 ) -> Result<bool> {
-    let mut way = Way::with("")?;
+    let mut way = brief()?;
     way.read_step = 1;
     way.failing_read = (bytes as u32).saturating_add(1);
     let (_, written) = wanted_of(stream, replies, bytes);
@@ -80,7 +90,7 @@ fn ends_when_unwritten(
     replies: &[u8],
     bytes: usize,
 ) -> Result<bool> {
-    let mut way = Way::with("")?;
+    let mut way = brief()?;
     way.write_step = 1;
     way.failing_write = (bytes as u32).saturating_add(1);
     let outcome = outcome_of(alloc, words, stream, way)?;
@@ -90,7 +100,7 @@ fn ends_when_unwritten(
 /// What is wrong with a session that ends as it should when some of it is missing, if anything. It
 /// ends by the request to end.
 pub(crate) fn fault_of_parts(alloc: Global, words: &str, stream: &[u8]) -> Result<Option<String>> {
-    let whole = outcome_of(alloc, words, stream, Way::with("")?)?;
+    let whole = outcome_of(alloc, words, stream, brief()?)?;
     let replies = whole.sink.bytes();
     for bytes in 0..stream.len() {
         if !ends_when_cut(alloc, words, stream, replies, bytes)? {

@@ -4,7 +4,6 @@ use Rattle.std.specs.List.{remove}
 use Rattle.omos_model.proofs.Names.{same_name-true}
 use Rattle.link_model.specs.Answer.{answer}
 use Rattle.link_model.specs.Module.{LinkedImage}
-use Rattle.name_tree.specs.Tree.{Tree}
 use Rattle.image_cache.specs.Items.{as_found, path_of}
 use Rattle.image_cache.specs.declared.item.Item.{Item}
 use Rattle.history_book.specs.Told.{namespace_after}
@@ -37,12 +36,11 @@ pub returns-in_default : goal.returns-in_default
 returns-in_default c =
     let room = c.if-not-room.ensures.0 (search rules) in
     let told = c.self.invariant.0.told in
-    let snap = ap (λ (t : Tree). t.entries) c.in-Ok.ensures ∙ told.space_is in
     let placed = c.len-placed.ensures.value ∙ ap length told.book_is in
     rw (
       ← c.self.view_is,
-      c.ticket_of.ensures,
-      snap,
+      c.in-Ok.ensures,
+      told.space_is,
       placed,
       c.push_asked.ensures.steps,
       c.push_asked.ensures.capacity,
