@@ -51,6 +51,7 @@ fn free_places(alloc: Global, count: usize) -> Result<Vec<u32>, NoMemory>
 }
 
 /// The first symbol that defines a name that a lower one defines too.
+#[inline(never)]
 pub(crate) fn first_again(
     alloc: Global,
     file: &[u8],

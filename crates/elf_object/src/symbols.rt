@@ -16,7 +16,8 @@ use crate::kept::{is_alignment, is_kept, is_section};
 use crate::names::{begins_with_name, rest_from, until_zero};
 use crate::reads::section;
 use crate::symtab::Symbols;
-use elf_words::values::{SHN_ABS, SHN_COMMON, SHN_UNDEF, STB_GLOBAL, STB_LOCAL, STB_WEAK, STT_COMMON};
+use elf_words::values::{SHN_ABS, SHN_COMMON, SHN_UNDEF};
+use elf_words::values::{STB_GLOBAL, STB_LOCAL, STB_WEAK, STT_COMMON};
 use elf_words::{Record, Sym};
 
 /// The largest common symbol, in bytes.
@@ -49,16 +50,17 @@ fn has_right_info(st_info: u8) -> bool
     st_info / 16 <= STB_WEAK && st_info % 16 <= STT_COMMON
 }
 
-/// UNDEF but for LOCAL, ABS, COMMON for GLOBAL alone, or a section's number.
+/// UNDEF but for LOCAL, ABS, COMMON for GLOBAL alone, or a section's number, which most have and
+/// is tried first.
 fn has_right_section(file: &[u8], binding: u8, index: u16) -> bool
     requires { HasHeaders file.now }
     ensures { result ≡ ((not (binding == 0) && (index == undef)) || (index == abs)
         || ((binding == 1) && (index == common)) || is_section file.now index) }
 {
-    (binding != STB_LOCAL && index == SHN_UNDEF)
+    is_section(file, index as usize)
+        || (binding != STB_LOCAL && index == SHN_UNDEF)
         || index == SHN_ABS
         || (binding == STB_GLOBAL && index == SHN_COMMON)
-        || is_section(file, index as usize)
 }
 
 /// Within a kept section; a name of other objects' isn't of a section that isn't kept.
@@ -111,6 +113,7 @@ fn is_wrong_symbol(file: &[u8], kept: &[bool], table: Symbols<'_>, k: u32) -> bo
 }
 
 /// The first symbol that is wrong.
+#[inline(never)]
 pub(crate) fn first_wrong(file: &[u8], kept: &[bool], table: Symbols<'_>) -> Option<u32>
     requires headers { HasHeaders file.now }
     requires sections { AreKept file.now kept.now }
