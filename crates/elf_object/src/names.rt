@@ -27,12 +27,12 @@ pub(crate) fn until_zero(bytes: &[u8]) -> &[u8]
     bytes
 }
 
-/// Whether a name may have the byte. Letters and digits are tried first.
-#[tactic(auto, using(crate::proofs::NameBytes::letter, crate::proofs::NameBytes::digit))]
+/// Whether a name may have the byte. The range of letters and digits is tried first.
+#[tactic(auto, using(crate::proofs::NameBytes::plain))]
 fn stands_in_names(byte: u8) -> bool
     ensures { result ≡ is_name_byte byte }
 {
-    (b';' < byte && byte != 0x7f) || (b')' < byte && byte < b';') || is_name_byte(byte)
+    (b')' < byte && byte < 0x7f && byte != b';') || is_name_byte(byte)
 }
 
 /// How many bytes that a name may have stand in front.

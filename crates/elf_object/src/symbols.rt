@@ -7,7 +7,7 @@ ghost use Rattle.omos_model.specs.Names.{is_symbol_name};
 ghost use Rattle.omos_model.specs.FragmentParts.{is_alignment, max_size};
 ghost use Rattle.omos_model.specs.ElfFields.{is_section, name_of, sh_size};
 ghost use Rattle.omos_model.specs.ElfFields.{st_info, symbol_at, symbols};
-ghost use Rattle.omos_model.specs.ElfFaults.{abs, common, is_kept, is_wrong_symbol, undef};
+ghost use Rattle.omos_model.specs.ElfFaults.{abs, common, is_export, is_kept, is_wrong_symbol, undef};
 ghost use Rattle.elf_words.specs.Sym.{sym_at};
 ghost use Rattle.elf_object.specs.Stages.{HasHeaders};
 ghost use Rattle.elf_object.specs.TablesOf.{AreKept, AreSymbols};
@@ -112,9 +112,25 @@ fn is_wrong_symbol(file: &[u8], kept: &[bool], table: Symbols<'_>, k: u32) -> bo
         && has_right_name(table, is_named, symbol.st_name))
 }
 
-/// The first symbol that is wrong.
+/// Whether a symbol defines its name for other objects.
+pub(crate) fn is_export(file: &[u8], table: Symbols<'_>, k: u32) -> bool
+    requires right { AreSymbols file.now table.count table.at table.strings.now }
+    requires there { k < table.count }
+    ensures { result ≡ is_export file.now k }
+{
+    let symbol = symbol(file, table, k);
+    let binding = symbol.st_info / 16;
+    (binding == STB_GLOBAL || binding == STB_WEAK) && symbol.st_shndx != SHN_UNDEF
+}
+
+/// The first symbol that is wrong. The exports before it are added to their count.
 #[inline(never)]
-pub(crate) fn first_wrong(file: &[u8], kept: &[bool], table: Symbols<'_>) -> Option<u32>
+pub(crate) fn first_wrong(
+    file: &[u8],
+    kept: &[bool],
+    table: Symbols<'_>,
+    exports: &mut usize,
+) -> Option<u32>
     requires headers { HasHeaders file.now }
     requires sections { AreKept file.now kept.now }
     requires right { AreSymbols file.now table.count table.at table.strings.now }
@@ -123,6 +139,9 @@ pub(crate) fn first_wrong(file: &[u8], kept: &[bool], table: Symbols<'_>) -> Opt
     for k in 1..table.count {
         if is_wrong_symbol(file, kept, table, k) {
             return Some(k);
+        }
+        if is_export(file, table, k) {
+            *exports = exports.saturating_add(1);
         }
     }
     None
