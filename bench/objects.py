@@ -42,4 +42,10 @@ for count in (20000, 40000):
     write(f"local-{count}.o", bytes(local), image_of(with_call(0)))
 for count in (12000, 24000):
     names = [("_start", 0)] + [(f"f{n:08}", 0) for n in range(count)]
-    write(f"exports-{count}.o", objects.plain(CODE, 16, names, []), image_of(CODE))
+    exports = objects.plain(CODE, 16, names, [])
+    write(f"exports-{count}.o", exports, image_of(CODE))
+    symbols = bytearray(exports)
+    at = symbols.index(struct.pack("<IBBHQQ", 8, 0x12, 0, 1, 0, 0))
+    for k in range(count):
+        symbols[at + 24 * k + 4] = 2  # LOCAL, FUNC
+    write(f"locals-{count}.o", bytes(symbols), image_of(CODE))

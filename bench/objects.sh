@@ -26,6 +26,7 @@ per() { # WHAT SMALL LARGE COUNT
 per "relocations against a global name" global-20000.o global-40000.o 20000
 per "relocations against a local symbol" local-20000.o local-40000.o 20000
 per "exports with a name of 9 bytes" exports-12000.o exports-24000.o 12000
+per "local symbols" locals-12000.o locals-24000.o 12000
 if [ -x /usr/bin/time ]; then
     /usr/bin/time -f %M -o memory "$omosd" once < global-40000.o > image
     echo "most memory held over $(stat -c %s global-40000.o) bytes of object: $(cat memory) KB"

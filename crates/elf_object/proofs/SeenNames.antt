@@ -1,26 +1,52 @@
 -- What was seen of names, as one more is met.
-use Rattle.std.proofs.Common.{◌≡◌, ℕ, suc, ◌+◌, ◌%◌, ◌<◌, ◌==◌, Bool, true, false, not, ◌&&◌, ◌||◌, List}
-use Rattle.std.proofs.Common.{◌≤◌, length, refl, sym, ap, ◌∙◌, cond, arith, get_or, replicate}
+use Rattle.std.proofs.Common.{◌≡◌, ℕ, ◌+◌, ◌%◌, ◌<◌, ◌≤◌, ◌==◌, Bool, true, false, not}
+use Rattle.std.proofs.Common.{◌&&◌, ◌||◌, List, length, refl, sym, ap, ◌∙◌, cond, arith, get_or}
+use Rattle.std.proofs.Common.{replicate}
 use Rattle.std.proofs.Math.ListN.{set}
 use Rattle.std.proofs.Math.Nat.{mod-lt}
 use Rattle.std.specs.Prelude.{nat_lt}
 use Rattle.std.specs.Ordering.{is_eq}
-use Rattle.std.proofs.lemmas.Bool.{and_right, eqb-false, eqb-true, false_from_ne_true, ltb-false, ltb-true}
+use Rattle.std.proofs.lemmas.Bool.{and_right, eqb-false, eqb-true, false_from_ne_true}
+use Rattle.std.proofs.lemmas.Bool.{ltb-false, ltb-true}
 use Rattle.std.proofs.lemmas.List.{get_or-replicate, get_or-set_other, get_or-set_same, get_or_past}
 use Rattle.std.proofs.lemmas.List.{length-replicate, length-set}
 use Rattle.omos_model.specs.ElfFields.{name_of}
 use Rattle.omos_model.specs.ElfFaults.{is_again, is_export}
 use Rattle.omos_model.specs.Names.{Name, name_cmp, same_name}
+use Rattle.std.specs.Cmp.{both_tied}
+use Rattle.std.specs.Ordering.{nat_cmp}
+use Rattle.std.proofs.lemmas.Cmp.{nat_cmp_total, tied_itself}
 use Rattle.omos_model.proofs.Names.{is_eq-name_cmp, same_name-swap, same_name-true}
 use Rattle.elf_object.specs.Seen.{HaveSeen, digest, in_place, is_defined_below, is_held}
+use Rattle.elf_object.specs.Seen.{name_order}
 use Rattle.elf_object.proofs.DefinedBelow.{again_as, below_export, below_other}
 
 abbrev place : List ℕ → Name → ℕ
 place places n = digest n % length places
 
+-- ---- the order of names
+
+-- names that it ties are the same
+is_eq-name_order : (a b : Name) → is_eq (name_order a b) ≡ same_name a b
+is_eq-name_order a b =
+    sym (both_tied (is_eq (nat_cmp (digest a) (digest b))) (same_name a b)
+    (nat_cmp (digest a) (digest b)) (name_cmp a b) refl (sym (is_eq-name_cmp a b)))
+    ∙ go (same_name a b) refl
+  where
+    go : (s : Bool) → same_name a b ≡ s
+        → (is_eq (nat_cmp (digest a) (digest b)) && same_name a b) ≡ same_name a b
+    go true e =
+        ap (λ x. x && same_name a b)
+        (ap (λ n. is_eq (nat_cmp (digest a) (digest n))) (sym (same_name-true a b e))
+        ∙ ap is_eq (tied_itself nat_cmp_total (digest a)))
+    go false e =
+        ap (λ s. is_eq (nat_cmp (digest a) (digest b)) && s) e
+        ∙ and_right (is_eq (nat_cmp (digest a) (digest b))) false refl ∙ sym e
+
 -- ---- a free place
 
-free_held : (file places : List ℕ) (n : Name) → in_place places n ≡ 0 → is_held file places n ≡ false
+free_held : (file places : List ℕ) (n : Name) → in_place places n ≡ 0
+    → is_held file places n ≡ false
 free_held file places n free =
     ap (λ (j : ℕ). not (j == 0) && same_name n (name_of file j)) free
 
@@ -196,10 +222,10 @@ module _ (file : List ℕ) (k : ℕ) (places : List ℕ) (others : Name → Bool
       ∙ e)
 
   more_is : (more : Name → Bool)
-      → ((n : Name) → more n ≡ cond (is_eq (name_cmp name n)) true (others n))
+      → ((n : Name) → more n ≡ cond (is_eq (name_order name n)) true (others n))
       → (n : Name) → more n ≡ cond (same_name n name) true (others n)
   more_is more e n =
-      e n ∙ ap (λ b. cond b true (others n)) (is_eq-name_cmp name n ∙ same_name-swap name n)
+      e n ∙ ap (λ b. cond b true (others n)) (is_eq-name_order name n ∙ same_name-swap name n)
 
   more_taken : (more : Name → Bool) → (there ≡ 0 → ⊥)
       → ((n : Name) → more n ≡ cond (same_name n name) true (others n))
@@ -211,7 +237,7 @@ module _ (file : List ℕ) (k : ℕ) (places : List ℕ) (others : Name → Bool
 
   -- and have it from then on
   pub seen_more : (there ≡ 0 → ⊥) → (more : Name → Bool)
-      → ((n : Name) → more n ≡ cond (is_eq (name_cmp name n)) true (others n))
+      → ((n : Name) → more n ≡ cond (is_eq (name_order name n)) true (others n))
       → HaveSeen file (k + 1) places more
   seen_more some more e =
       record {

@@ -1,9 +1,12 @@
 -- The names that a search for one defined twice has met, in two places: a table by a number made
 -- of a name's bytes, and a set of the names whose place there was taken.
-use Rattle.std.specs.Prelude.{◌≡◌, ℕ, ◌+◌, ◌-◌, ◌%◌, ◌<◌, ◌==◌, Bool, false, not, ◌&&◌, ◌||◌, List, length}
-use Rattle.std.specs.Prelude.{slice_index_or}
+use Rattle.std.specs.Prelude.{◌≡◌, ℕ, ◌-◌, ◌%◌, ◌<◌, ◌==◌, Bool, false, not, ◌&&◌, ◌||◌, List}
+use Rattle.std.specs.Prelude.{length, slice_index_or}
 use Rattle.std.specs.List.{list_any}
+use Rattle.std.specs.Cmp.Lexicographic.{slice_cmp}
 use Rattle.std.specs.Hash.FoldHasher as folding
+use Rattle.std.specs.Ordering.{nat_cmp, on, then_cmp}
+use Rattle.std.specs.declared.cmp.Ordering.{Ordering}
 use Rattle.omos_model.specs.Names.{Name, same_name}
 use Rattle.omos_model.specs.Numbers.{numbers_from}
 use Rattle.omos_model.specs.ElfFields.{name_of}
@@ -12,6 +15,10 @@ use Rattle.omos_model.specs.ElfFaults.{is_export}
 -- the number that stands for a name; others may share it
 unfoldable pub digest : Name → ℕ
 digest name = folding.finish (folding.write folding.initial name)
+
+-- names are ordered by their numbers, and those that share one by their bytes
+abbrev pub name_order : Name → Name → Ordering
+name_order = then_cmp (on digest nat_cmp) (slice_cmp nat_cmp)
 
 -- a symbol below k defines the name
 abbrev pub is_defined_below : List ℕ → ℕ → Name → Bool

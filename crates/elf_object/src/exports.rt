@@ -9,37 +9,12 @@ ghost use Rattle.omos_model.specs.declared.refusal.ObjectFault.TheVariants.{Twic
 ghost use Rattle.elf_object.specs.TablesOf.{AreSymbols};
 
 use crate::seen::is_new;
-use crate::symbols::{name, symbol};
+use crate::symbols::{is_export, name};
 use crate::symtab::Symbols;
-use elf_words::values::{SHN_UNDEF, STB_GLOBAL, STB_WEAK};
 use omos_base::{Fault, NoMemory, SymName};
 use omos_model::ObjectFault;
 use std::alloc::Global;
 use std::collections::BTreeSet;
-
-/// Whether a symbol defines its name for other objects.
-fn is_export(file: &[u8], table: Symbols<'_>, k: u32) -> bool
-    requires right { AreSymbols file.now table.count table.at table.strings.now }
-    requires there { k < table.count }
-    ensures { result ≡ is_export file.now k }
-{
-    let symbol = symbol(file, table, k);
-    let binding = symbol.st_info / 16;
-    (binding == STB_GLOBAL || binding == STB_WEAK) && symbol.st_shndx != SHN_UNDEF
-}
-
-/// How many exports there are.
-fn count_of_exports(file: &[u8], table: Symbols<'_>) -> usize
-    requires { AreSymbols file.now table.count table.at table.strings.now }
-{
-    let mut count = 0usize;
-    for k in 1..table.count {
-        if is_export(file, table, k) {
-            count = count.saturating_add(1);
-        }
-    }
-    count
-}
 
 /// A table of this many free places.
 fn free_places(alloc: Global, count: usize) -> Result<Vec<u32>, NoMemory>
@@ -50,16 +25,18 @@ fn free_places(alloc: Global, count: usize) -> Result<Vec<u32>, NoMemory>
     Ok(places)
 }
 
-/// The first symbol that defines a name that a lower one defines too.
+/// The first symbol that defines a name that a lower one defines too. About so many symbols define
+/// one; the places are taken by that.
+#[inline(never)]
 pub(crate) fn first_again(
     alloc: Global,
     file: &[u8],
     table: Symbols<'_>,
+    count: usize,
 ) -> Result<Option<u32>, NoMemory>
     requires { AreSymbols file.now table.count table.at table.strings.now }
     ensures { IfOk result (λ k. k ≡ find (is_again file.now) (symbols file.now)) }
 {
-    let count = count_of_exports(file, table);
     let mut places = free_places(alloc, count.saturating_mul(8).saturating_add(1))?;
     let mut others = BTreeSet::new(alloc);
     for k in 1..table.count {
@@ -77,13 +54,14 @@ pub(crate) fn twice(
     alloc: Global,
     file: &[u8],
     table: Symbols<'_>,
+    count: usize,
 ) -> Result<Option<ObjectFault>, NoMemory>
     requires right { AreSymbols file.now table.count table.at table.strings.now }
     requires lawful { find (is_wrong_symbol file.now) (symbols file.now) ≡ None }
     ensures { IfOk result (λ x. x ≡ option_map (λ k. Twice (name_of file.now k))
         (find (is_again file.now) (symbols file.now))) }
 {
-    let Some(k) = first_again(alloc, file, table)? else {
+    let Some(k) = first_again(alloc, file, table, count)? else {
         return Ok(None);
     };
     match SymName::read(alloc, name(file, table, k)) {

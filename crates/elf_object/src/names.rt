@@ -27,12 +27,20 @@ pub(crate) fn until_zero(bytes: &[u8]) -> &[u8]
     bytes
 }
 
+/// Whether a name may have the byte. The range of letters and digits is tried first.
+#[tactic(auto, using(crate::proofs::NameBytes::plain))]
+fn stands_in_names(byte: u8) -> bool
+    ensures { result ≡ is_name_byte byte }
+{
+    (b')' < byte && byte < 0x7f && byte != b';') || is_name_byte(byte)
+}
+
 /// How many bytes that a name may have stand in front.
 fn name_length(bytes: &[u8]) -> usize
     ensures { result ≡ prefix_len is_name_byte bytes.now }
 {
     for (length, byte) in bytes.iter().enumerate() {
-        if !is_name_byte(*byte) {
+        if !stands_in_names(*byte) {
             return length;
         }
     }

@@ -40,10 +40,11 @@ fn symbol_fault(
     requires right { AreSymbols file.now table.count table.at table.strings.now }
     ensures { IfOk result (λ x. x ≡ symbol_fault file.now) }
 {
-    if let Some(k) = symbols::first_wrong(file, kept, table) {
+    let mut exports = 0;
+    if let Some(k) = symbols::first_wrong(file, kept, table, &mut exports) {
         return Ok(Some(ObjectFault::Symbol(k)));
     }
-    exports::twice(alloc, file, table)
+    exports::twice(alloc, file, table, exports)
 }
 
 fn rela_fault(file: &[u8], kept: &[bool], table: Symbols<'_>) -> Option<ObjectFault>
@@ -65,9 +66,11 @@ fn rela_fault(file: &[u8], kept: &[bool], table: Symbols<'_>) -> Option<ObjectFa
 /// header, O5 and O6 of its sections, O7 of its symbol table, O8 and O9 of its symbols, O10 and
 /// O11 of its relocations, in this order, each of the least section, symbol and entry.
 ///
-/// It costs a pass over the section headers for each of O5, O6, O7, O10 and O11, two over the
-/// symbols and their names, and one over the relocations. The memory is that of a set with an entry
-/// for each symbol, and is given back.
+/// It costs a pass over the section headers for each of O5, O6, O7, O10 and O11 and one to find the
+/// kept ones, two over the symbols, two over the names of exports, and one over the relocations.
+/// Whatever the names are, an export costs a number of comparisons that grows with the logarithm of
+/// their count. The memory is a byte a section and, given back, 32 bytes an export and what a set of
+/// those names takes whose place is taken.
 pub fn read_tables(alloc: Global, file: &[u8]) -> Result<Tables<'_>, Fault<ObjectFault>>
     ensures tables { MatchFault result
         (λ t. (t ≡ file.now) × (object_fault file.now ≡ None))

@@ -4,17 +4,13 @@
 //! those whose place is taken stand in an ordered set. So names that were chosen to share one place
 //! cost what the set costs, a number of comparisons that grows with the logarithm of their count.
 
-ghost use Rattle.std.specs.Prelude.{◌≡◌, ◌+◌, ◌<◌, ◌≤◌, true, not, IfOk, IsTrue, nat_eq, refl};
+ghost use Rattle.std.specs.Prelude.{◌≡◌, ◌+◌, ◌<◌, ◌≤◌, true, not, IfOk, IsTrue, refl};
 ghost use Rattle.std.specs.BTreeSet.{contains};
-ghost use Rattle.std.specs.Cmp.{partial_order_from_own_ties};
-ghost use Rattle.std.specs.Cmp.Lexicographic.{pointwise, slice_cmp};
 ghost use Rattle.std.specs.Cmp.Rules.{comparing};
-ghost use Rattle.std.specs.Ordering.{as_partial_cmp, nat_cmp};
+ghost use Rattle.std.specs.Ordering.{as_partial_cmp, eq_by_cmp};
 ghost use Rattle.std.proofs.Common.{rules};
-ghost use Rattle.omos_model.specs.ElfFields.{symbol_count};
 ghost use Rattle.omos_model.specs.ElfFaults.{is_again, is_export};
-ghost use Rattle.omos_model.specs.Names.{name_cmp};
-ghost use Rattle.elf_object.specs.Seen.{HaveSeen, digest};
+ghost use Rattle.elf_object.specs.Seen.{HaveSeen, digest, name_order};
 ghost use Rattle.elf_object.specs.TablesOf.{AreSymbols};
 
 use crate::symbols::name;
@@ -25,27 +21,34 @@ use std::collections::BTreeSet;
 use std::hash::{FoldHasher, Hasher};
 use std::marker::Model;
 
-/// The name of an export, that contracts see as its bytes. Names are ordered by their bytes.
+/// The name of an export, that contracts see as its bytes. Names are ordered by their numbers,
+/// which mostly differ, and then by their bytes.
 #[derive(Drop)]
 pub(crate) struct ExportName<'a> {
+    /// The number that stands for the name.
+    number: u64,
     bytes: &'a [u8],
 }
 
 impl<'a> Model for ExportName<'a> {
-    ghost use Rattle.std.specs.Prelude.{List, ℕ};
+    ghost use Rattle.std.specs.Prelude.{◌≡◌, List, ℕ};
 
     ghost Value = { List ℕ };
 
+    ghost use Rattle.elf_object.specs.Seen.{digest};
+
     ghost view = { λ name. name.bytes.now };
+
+    ghost invariant = { λ name. name.number ≡ digest name.bytes.now };
 }
 
 impl<'a> PartialEq for ExportName<'a> {
-    ghost eq = { pointwise nat_eq };
+    ghost eq = { eq_by_cmp name_order };
 
     ghost laws = { Prim.search (comparing, rules) };
 
     fn eq(&self, other: &ExportName<'a>) -> bool {
-        self.bytes == other.bytes
+        self.cmp(other).is_eq()
     }
 }
 
@@ -54,10 +57,9 @@ impl<'a> Eq for ExportName<'a> {
 }
 
 impl<'a> PartialOrd for ExportName<'a> {
-    ghost partial_cmp = { as_partial_cmp (slice_cmp nat_cmp) };
+    ghost partial_cmp = { as_partial_cmp name_order };
 
-    ghost laws = { partial_order_from_own_ties (Prim.search (comparing, rules))
-        (Prim.search (comparing, rules)) };
+    ghost laws = { Prim.search (comparing, rules) };
 
     fn partial_cmp(&self, other: &ExportName<'a>) -> Option<Ordering> {
         Some(self.cmp(other))
@@ -65,16 +67,19 @@ impl<'a> PartialOrd for ExportName<'a> {
 }
 
 impl<'a> Ord for ExportName<'a> {
-    ghost cmp = { slice_cmp nat_cmp };
+    ghost cmp = { name_order };
 
     ghost total = { Prim.search (comparing, rules) };
 
     ghost matches_partial_cmp = { λ x y. refl };
 
-    ghost matches_eq = { Prim.search (comparing, rules) };
+    ghost matches_eq = { λ x y. refl };
 
     fn cmp(&self, other: &ExportName<'a>) -> Ordering {
-        self.bytes.cmp(other.bytes)
+        match self.number.cmp(&other.number) {
+            Ordering::Equal => self.bytes.cmp(other.bytes),
+            apart => apart,
+        }
     }
 }
 
@@ -100,13 +105,14 @@ pub(crate) fn is_new<'a>(
     requires counted { 1 ≤ k }
     requires there { k < table.count }
     requires export { is_export file.now k ≡ true }
-    requires seen { HaveSeen file.now k places.old.items (contains name_cmp others.old) }
+    requires seen { HaveSeen file.now k places.old.items (contains name_order others.old) }
     ensures { IfOk result (λ new. (is_again file.now k ≡ not new)
         × (IsTrue new → HaveSeen file.now (k + 1) places.new.items
-        (contains name_cmp others.new))) }
+        (contains name_order others.new))) }
 {
     let bytes = name(file, table, k);
-    let place = (digest(bytes) % places.len() as u64) as usize;
+    let number = digest(bytes);
+    let place = (number % places.len() as u64) as usize;
     let other = places[place];
     if other == 0 {
         places[place] = k;
@@ -115,5 +121,5 @@ pub(crate) fn is_new<'a>(
     if name(file, table, other) == bytes {
         return Ok(false);
     }
-    Ok(others.insert(ExportName { bytes })?)
+    Ok(others.insert(ExportName { number, bytes })?)
 }

@@ -7,7 +7,7 @@ ghost use Rattle.omos_model.specs.Names.{is_symbol_name};
 ghost use Rattle.omos_model.specs.FragmentParts.{is_alignment, max_size};
 ghost use Rattle.omos_model.specs.ElfFields.{is_section, name_of, sh_size};
 ghost use Rattle.omos_model.specs.ElfFields.{st_info, symbol_at, symbols};
-ghost use Rattle.omos_model.specs.ElfFaults.{abs, common, is_kept, is_wrong_symbol, undef};
+ghost use Rattle.omos_model.specs.ElfFaults.{abs, common, is_export, is_kept, is_wrong_symbol, undef};
 ghost use Rattle.elf_words.specs.Sym.{sym_at};
 ghost use Rattle.elf_object.specs.Stages.{HasHeaders};
 ghost use Rattle.elf_object.specs.TablesOf.{AreKept, AreSymbols};
@@ -16,7 +16,8 @@ use crate::kept::{is_alignment, is_kept, is_section};
 use crate::names::{begins_with_name, rest_from, until_zero};
 use crate::reads::section;
 use crate::symtab::Symbols;
-use elf_words::values::{SHN_ABS, SHN_COMMON, SHN_UNDEF, STB_GLOBAL, STB_LOCAL, STB_WEAK, STT_COMMON};
+use elf_words::values::{SHN_ABS, SHN_COMMON, SHN_UNDEF};
+use elf_words::values::{STB_GLOBAL, STB_LOCAL, STB_WEAK, STT_COMMON};
 use elf_words::{Record, Sym};
 
 /// The largest common symbol, in bytes.
@@ -49,16 +50,17 @@ fn has_right_info(st_info: u8) -> bool
     st_info / 16 <= STB_WEAK && st_info % 16 <= STT_COMMON
 }
 
-/// UNDEF but for LOCAL, ABS, COMMON for GLOBAL alone, or a section's number.
+/// UNDEF but for LOCAL, ABS, COMMON for GLOBAL alone, or a section's number, which most have and
+/// is tried first.
 fn has_right_section(file: &[u8], binding: u8, index: u16) -> bool
     requires { HasHeaders file.now }
     ensures { result ≡ ((not (binding == 0) && (index == undef)) || (index == abs)
         || ((binding == 1) && (index == common)) || is_section file.now index) }
 {
-    (binding != STB_LOCAL && index == SHN_UNDEF)
+    is_section(file, index as usize)
+        || (binding != STB_LOCAL && index == SHN_UNDEF)
         || index == SHN_ABS
         || (binding == STB_GLOBAL && index == SHN_COMMON)
-        || is_section(file, index as usize)
 }
 
 /// Within a kept section; a name of other objects' isn't of a section that isn't kept.
@@ -110,8 +112,25 @@ fn is_wrong_symbol(file: &[u8], kept: &[bool], table: Symbols<'_>, k: u32) -> bo
         && has_right_name(table, is_named, symbol.st_name))
 }
 
-/// The first symbol that is wrong.
-pub(crate) fn first_wrong(file: &[u8], kept: &[bool], table: Symbols<'_>) -> Option<u32>
+/// Whether a symbol defines its name for other objects.
+pub(crate) fn is_export(file: &[u8], table: Symbols<'_>, k: u32) -> bool
+    requires right { AreSymbols file.now table.count table.at table.strings.now }
+    requires there { k < table.count }
+    ensures { result ≡ is_export file.now k }
+{
+    let symbol = symbol(file, table, k);
+    let binding = symbol.st_info / 16;
+    (binding == STB_GLOBAL || binding == STB_WEAK) && symbol.st_shndx != SHN_UNDEF
+}
+
+/// The first symbol that is wrong. The exports before it are added to their count.
+#[inline(never)]
+pub(crate) fn first_wrong(
+    file: &[u8],
+    kept: &[bool],
+    table: Symbols<'_>,
+    exports: &mut usize,
+) -> Option<u32>
     requires headers { HasHeaders file.now }
     requires sections { AreKept file.now kept.now }
     requires right { AreSymbols file.now table.count table.at table.strings.now }
@@ -120,6 +139,9 @@ pub(crate) fn first_wrong(file: &[u8], kept: &[bool], table: Symbols<'_>) -> Opt
     for k in 1..table.count {
         if is_wrong_symbol(file, kept, table, k) {
             return Some(k);
+        }
+        if is_export(file, table, k) {
+            *exports = exports.saturating_add(1);
         }
     }
     None

@@ -1,5 +1,6 @@
 -- A fixup, from what was read of its relocation.
-use Rattle.std.proofs.Common.{◌≡◌, ℕ, ℤ, ◌+◌, ◌*◌, ◌/◌, ◌%◌, ◌^◌, List, Option, Some, None, sym, ap, ◌∙◌}
+use Rattle.std.proofs.Common.{◌≡◌, ℕ, ◌+◌, ◌*◌, ◌/◌, ◌%◌, ◌^◌, List, Option, Some, None, sym, ap}
+use Rattle.std.proofs.Common.{◌∙◌}
 use Rattle.std.specs.Option.{option_map}
 use Rattle.elf_words.specs.Rela.{rela_at}
 use Rattle.elf_words.specs.declared.rela.Rela.{Rela}
@@ -39,7 +40,9 @@ pub fixup_is : (file : List ℕ) (i j : ℕ) (e : Rela) (kind : Kind) (piece : �
 fixup_is file i j e kind piece aim read target type aimed =
     let is = type_is file i j e (Some kind) read type in
     let at = section_piece file (sh_info file i) in
-    ap (option_map (fixup_with at (r_offset file i j) (r_addend file i j) (aim_of file (r_sym file i j)))) is
-    ∙ ap (λ (x : Rela). Some (fixup_with at x.r_offset x.r_addend (aim_of file (x.r_info / 2 ^ 32)) kind)) (sym read)
+    ap (option_map (fixup_with at (r_offset file i j) (r_addend file i j)
+    (aim_of file (r_sym file i j)))) is
+    ∙ ap (λ (x : Rela). Some (fixup_with at x.r_offset x.r_addend
+    (aim_of file (x.r_info / 2 ^ 32)) kind)) (sym read)
     ∙ ap (λ (a : Aim). Some (fixup_with at e.r_offset e.r_addend a kind)) (sym aimed)
     ∙ ap (λ (p : ℕ). Some (fixup_with p e.r_offset e.r_addend aim kind)) (sym target)

@@ -38,6 +38,7 @@ fn export_of(
 }
 
 /// The exports of an object file, whose first common symbol is the piece with this number.
+#[inline(never)]
 pub(crate) fn exports(
     alloc: Global,
     tables: &Tables<'_>,

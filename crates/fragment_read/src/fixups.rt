@@ -68,7 +68,9 @@ fn fixup_with(piece: u32, entry: Rela, kind: Kind, aim: Aim) -> Fixup
     }
 }
 
-/// Appends the fixups of a section's relocations; one of type NONE has none.
+/// Appends the fixups of a section's relocations; one of type NONE has none. A function of its own,
+/// so that its loop has the registers.
+#[inline(never)]
 fn push_fixups(
     tables: &Tables<'_>,
     numbers: &[u32],

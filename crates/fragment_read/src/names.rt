@@ -44,6 +44,7 @@ pub(crate) fn name_at<'a>(tables: &Tables<'_>, names: &'a [Option<SymName>], k: 
 }
 
 /// By a symbol's number its name, where it has one. Each owns its bytes.
+#[inline(never)]
 pub(crate) fn names(alloc: Global, tables: &Tables<'_>) -> Result<Row<Option<SymName>>, NoMemory>
     requires { object_fault tables.now ≡ None }
     ensures { IfOk result (λ names. AreNames tables.now names) }

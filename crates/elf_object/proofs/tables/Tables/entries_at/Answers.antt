@@ -12,5 +12,6 @@ returns-clause-inside c =
     (rw (← c.self.view_is) at c.requires.there) (rw (← c.self.view_is) at c.requires.used) in
     let e : c.section.result.sh_offset ≡ sh_offset file c.args.i = ap (λ (s : Shdr). s.sh_offset)
     c.section.ensures in
-    let end = entries_end (sh_offset file c.args.i) (sh_size file c.args.i) (length file) w.inside in
+    let end = entries_end (sh_offset file c.args.i) (sh_size file c.args.i) (length file)
+    w.inside in
     rw (← c.self.view_is) (omega (arith, end, e))
