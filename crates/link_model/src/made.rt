@@ -11,6 +11,7 @@ use crate::landed;
 use module_table::Table;
 use omos_base::{Fault, NoMemory, PathName, Row, Shared, SymName};
 use omos_model::{Entry, Stamped, Start};
+use seeded_hash::Seed;
 use std::alloc::Global;
 
 /// An entry's object is a fragment. Nothing is run.
@@ -37,7 +38,8 @@ pub fn usual_start(alloc: Global) -> Result<SymName, NoMemory>
 
 impl Evaluated {
     /// The evaluation of a path on the namespace that its footprint lists, by the table of its
-    /// term. It costs a look-up for each reference that is open, and an owner for each name.
+    /// term, whose seed it keeps. It costs a look-up for each reference that is open, and an owner
+    /// for each name.
     pub fn of_table(
         alloc: Global,
         path: PathName,
@@ -54,16 +56,25 @@ impl Evaluated {
         let landings = landed::landings(alloc, table)?;
         let names = landed::names(alloc, table)?;
         let footprint = Shared::of(alloc, footprint)?;
-        Ok(Evaluated::of(path, leaves, landings, names, footprint, start, lo, hi))
+        let seed = *table.definitions().hasher();
+        Ok(Evaluated::of(
+            path, leaves, landings, names, footprint, start, lo, hi, seed,
+        ))
     }
 
-    /// The evaluation of an object's path on the namespace that holds it alone, with stamp 1.
-    pub fn lone(alloc: Global, path: PathName, entry: Shared<Entry>) -> Result<Evaluated, NoMemory>
+    /// The evaluation of an object's path on the namespace that holds it alone, with stamp 1. The
+    /// seed is that of its table.
+    pub fn lone(
+        alloc: Global,
+        seed: Seed,
+        path: PathName,
+        entry: Shared<Entry>,
+    ) -> Result<Evaluated, NoMemory>
         requires { IsObject entry }
         ensures { IfOk result (λ m. (m.path ≡ path) × (m.footprint ≡ alone path entry)) }
     {
         holds_fragment(entry.get());
-        let table = Table::leaf(alloc, 0, entry.twin()?)?;
+        let table = Table::leaf(alloc, seed, 0, entry.twin()?)?;
         let mut footprint = Row::new(alloc);
         footprint.push(Stamped {
             path: Shared::of(alloc, path.copy())?,
