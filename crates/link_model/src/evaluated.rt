@@ -6,6 +6,7 @@ ghost use Rattle.link_model.specs.Module.{IsModule, found, landing_at, module_of
 
 use omos_base::{NoMemory, PathName, Row, Shared, SymName};
 use omos_model::{Entry, Landing, Stamped, Start, Target};
+use seeded_hash::Seed;
 use std::marker::Model;
 
 /// A name that a module defines, and what it is.
@@ -29,6 +30,7 @@ pub struct Evaluated {
     start: Start,
     lo: u64,
     hi: u64,
+    seed: Seed,
 }
 
 impl Model for Evaluated {
@@ -47,7 +49,7 @@ impl Model for Evaluated {
 }
 
 impl Evaluated {
-    /// The evaluation of a path. It takes no memory.
+    /// The evaluation of a path. It takes no memory. Tables of its targets hash by the seed.
     pub fn of(
         path: PathName,
         leaves: Row<Shared<Entry>>,
@@ -57,6 +59,7 @@ impl Evaluated {
         start: Start,
         lo: u64,
         hi: u64,
+        seed: Seed,
     ) -> Evaluated
         requires { IsModule (module_of path leaves landings names footprint start lo hi) }
         ensures { result ≡ module_of path leaves landings names footprint start lo hi }
@@ -70,6 +73,7 @@ impl Evaluated {
             start,
             lo,
             hi,
+            seed,
         }
     }
 
@@ -153,6 +157,11 @@ impl Evaluated {
     {
         range_is_lawful(self);
         self.hi
+    }
+
+    /// What tables of its targets hash by. Contracts don't see it, since no image depends on it.
+    pub fn seed(&self) -> Seed {
+        self.seed
     }
 }
 

@@ -38,7 +38,8 @@ pub fn usual_start(alloc: Global) -> Result<SymName, NoMemory>
 
 impl Evaluated {
     /// The evaluation of a path on the namespace that its footprint lists, by the table of its
-    /// term. It costs a look-up for each reference that is open, and an owner for each name.
+    /// term, whose seed it keeps. It costs a look-up for each reference that is open, and an owner
+    /// for each name.
     pub fn of_table(
         alloc: Global,
         path: PathName,
@@ -55,11 +56,14 @@ impl Evaluated {
         let landings = landed::landings(alloc, table)?;
         let names = landed::names(alloc, table)?;
         let footprint = Shared::of(alloc, footprint)?;
-        Ok(Evaluated::of(path, leaves, landings, names, footprint, start, lo, hi))
+        let seed = *table.definitions().hasher();
+        Ok(Evaluated::of(
+            path, leaves, landings, names, footprint, start, lo, hi, seed,
+        ))
     }
 
     /// The evaluation of an object's path on the namespace that holds it alone, with stamp 1. The
-    /// table of its names hashes by the seed.
+    /// seed is that of its table.
     pub fn lone(
         alloc: Global,
         seed: Seed,
