@@ -35,8 +35,12 @@ use Rattle.std.proofs.vec.Vec.TheSendSync as vec_crosses
 use Rattle.name_tree.specs.contracts.snap.Snap as snap
 use Rattle.name_tree.specs.contracts.snap.Snap.TheInside as inside
 use Rattle.name_tree.specs.contracts.few.Few as few
+use Rattle.name_tree.specs.contracts.few.Small as small
 use Rattle.name_tree.specs.contracts.root.Root as root
 use Rattle.name_tree.proofs.few.Few.TheSendSync as few_crosses
+use Rattle.name_tree.proofs.few.Small.TheSendSync as small_crosses
+use Rattle.seeded_hash.proofs.hasher.NameHasher.TheSendSync as hasher_crosses
+use Rattle.seeded_hash.proofs.seed.Seed.TheSendSync as seed_crosses
 use Rattle.link_model.specs.contracts.linked.Linked as linked
 use Rattle.history_book.specs.contracts.brief.Brief as brief
 use Rattle.history_book.proofs.step.Note.TheSendSync as note_crosses
@@ -151,6 +155,9 @@ module _ (R : denote.RattleType.RattleType) (s : IsSend R) (t : IsSync R) where
   few_sync : IsSync (shared.the_row (few.the_row R))
   few_sync = shared_crosses.the_sync (few.the_row R) (few_crosses.the_send R s) (few_crosses.the_sync R t)
 
+  small_send : IsSend (shared.the_row (small.the_row R))
+  small_send = shared_crosses.the_send (small.the_row R) (small_crosses.the_send R s) (small_crosses.the_sync R t)
+
 leaf_send : IsSend (shared.the_row (row.the_row stamped.the_row))
 leaf_send = row_send stamped.the_row stamped_send stamped_sync
 
@@ -172,14 +179,17 @@ branch_sync = few_sync _ page_send page_sync
 branches_send : IsSend (shared.the_row (few.the_row (shared.the_row (few.the_row (shared.the_row (few.the_row stamped.the_row))))))
 branches_send = few_send _ branch_send branch_sync
 
+small_branches_send : IsSend (shared.the_row (small.the_row (shared.the_row (few.the_row (shared.the_row (few.the_row stamped.the_row))))))
+small_branches_send = small_send _ branch_send branch_sync
+
 many_send : IsSend (shared.the_row (row.the_row (shared.the_row (few.the_row (shared.the_row (few.the_row stamped.the_row))))))
 many_send = row_send _ branch_send branch_sync
 
 root_send : IsSend root.the_row
-root_send = search (branches_send, many_send, sendable) depth 60 fits 20000
+root_send = search (small_branches_send, branches_send, many_send, sendable) depth 60 fits 20000
 
 inside_send : IsSend inside.the_row
-inside_send = declared_send inside.the_type (search (crosses, sendable) depth 20 fits 4000, (search (root_send, as_row_send, sendable) depth 20 fits 4000, (search sendable, tt)))
+inside_send = declared_send inside.the_type (search (crosses, sendable) depth 20 fits 4000, (search (seed_crosses.the_field_send, seed_crosses.the_send, hasher_crosses.the_field_send, hasher_crosses.the_send, crosses, sendable) depth 20 fits 4000, (search (root_send, as_row_send, sendable) depth 20 fits 4000, (search sendable, tt))))
 
 snap_send : IsSend snap.the_row
 snap_send = search (inside_send, sendable) depth 20 fits 4000
