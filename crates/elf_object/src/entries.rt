@@ -18,9 +18,10 @@ use crate::reads::{count_of_sections, section};
 use crate::relas::{RELA_SIZE, is_used};
 use crate::symbols::symbol;
 use crate::symtab::Symbols;
-use elf_words::values::{R_X86_64_32, R_X86_64_32S, R_X86_64_64, R_X86_64_GOTPCREL};
-use elf_words::values::{R_X86_64_GOTPCRELX, R_X86_64_NONE, R_X86_64_PC32, R_X86_64_PC64};
-use elf_words::values::{R_X86_64_PLT32, R_X86_64_REX_GOTPCRELX, STB_LOCAL};
+use elf_words::values::{
+    R_X86_64_32, R_X86_64_32S, R_X86_64_64, R_X86_64_GOTPCREL, R_X86_64_GOTPCRELX, R_X86_64_NONE,
+    R_X86_64_PC32, R_X86_64_PC64, R_X86_64_PLT32, R_X86_64_REX_GOTPCRELX, STB_LOCAL,
+};
 use elf_words::{Record, Rela};
 use omos_model::Kind;
 
@@ -122,11 +123,7 @@ fn first_in(file: &[u8], kept: &[bool], table: Symbols<'_>, i: usize) -> Option<
 }
 
 /// The first relocation that is wrong, by its section and its number in that.
-pub(crate) fn first_wrong(
-    file: &[u8],
-    kept: &[bool],
-    table: Symbols<'_>,
-) -> Option<(u32, u32)>
+pub(crate) fn first_wrong(file: &[u8], kept: &[bool], table: Symbols<'_>) -> Option<(u32, u32)>
     requires headers { HasHeaders file.now }
     requires sections { AreKept file.now kept.now }
     requires right { AreSymbols file.now table.count table.at table.strings.now }

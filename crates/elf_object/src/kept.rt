@@ -12,9 +12,11 @@ ghost use Rattle.elf_object.specs.Checks.{fails};
 ghost use Rattle.elf_object.specs.TablesOf.{AreKept};
 
 use crate::reads::{count_of_sections, ends_within, section};
-use elf_words::values::{SHF_ALLOC, SHF_COMPRESSED, SHF_EXECINSTR, SHF_TLS, SHF_WRITE};
-use elf_words::values::{SHT_FINI_ARRAY, SHT_INIT_ARRAY, SHT_NOBITS, SHT_NOTE, SHT_PROGBITS};
-use elf_words::values::{SHT_GROUP, SHT_REL, SHT_SYMTAB_SHNDX, SHT_X86_64_UNWIND};
+use elf_words::values::{
+    SHF_ALLOC, SHF_COMPRESSED, SHF_EXECINSTR, SHF_TLS, SHF_WRITE, SHT_FINI_ARRAY, SHT_GROUP,
+    SHT_INIT_ARRAY, SHT_NOBITS, SHT_NOTE, SHT_PROGBITS, SHT_REL, SHT_SYMTAB_SHNDX,
+    SHT_X86_64_UNWIND,
+};
 use omos_base::{NoMemory, Row};
 use std::alloc::Global;
 

@@ -16,8 +16,9 @@ use crate::kept::{is_alignment, is_kept, is_section};
 use crate::names::{begins_with_name, rest_from, until_zero};
 use crate::reads::section;
 use crate::symtab::Symbols;
-use elf_words::values::{SHN_ABS, SHN_COMMON, SHN_UNDEF};
-use elf_words::values::{STB_GLOBAL, STB_LOCAL, STB_WEAK, STT_COMMON};
+use elf_words::values::{
+    SHN_ABS, SHN_COMMON, SHN_UNDEF, STB_GLOBAL, STB_LOCAL, STB_WEAK, STT_COMMON,
+};
 use elf_words::{Record, Sym};
 
 /// The largest common symbol, in bytes.

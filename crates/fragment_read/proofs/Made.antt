@@ -9,7 +9,6 @@ use Rattle.omos_model.specs.ElfFields.{sh_offset}
 use Rattle.omos_model.specs.ElfFaults.{kind_of}
 use Rattle.omos_model.specs.FragmentOf.{aim_of, fixup_of, section_piece}
 use Rattle.omos_model.specs.declared.fragment.Aim.{Aim}
-use Rattle.omos_model.specs.declared.fragment.Fixup.{Fixup}
 use Rattle.omos_model.specs.declared.fragment.Kind.{Kind}
 use Rattle.fragment_read.specs.Numbered.{fixup_with}
 

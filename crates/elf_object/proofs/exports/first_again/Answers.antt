@@ -1,5 +1,5 @@
-use Rattle.std.proofs.Common.{◌≡◌, ◌<◌, ◌≤◌, true, false, not, ap, sym, ◌∙◌, arith}
-use Rattle.omos_model.specs.ElfFaults.{is_again, is_export}
+use Rattle.std.proofs.Common.{◌<◌, ◌≤◌, not, ap, sym, ◌∙◌, arith}
+use Rattle.omos_model.specs.ElfFaults.{is_again}
 use Rattle.elf_object.proofs.DefinedBelow.{never_again}
 use Rattle.elf_object.proofs.Runs.{find_here, find_next}
 use Rattle.elf_object.proofs.SeenNames.{seen_still}
