@@ -30,7 +30,7 @@ fn measure(alloc: Global, evaluated: &Evaluated) -> Result<(Row<Target>, ByGroup
     ensures near { IfOk result (λ x. IsWithin (2 ^ 49) x.1) }
 {
     let leaves = evaluated.leaves();
-    let slots = slots_of(alloc, leaves, evaluated.landings())?;
+    let slots = slots_of(alloc, evaluated.seed(), leaves, evaluated.landings())?;
     let sizes = sizes_of(&ends_of(leaves), slots.as_slice());
     Ok((slots, sizes))
 }
@@ -72,7 +72,8 @@ fn place(alloc: Global, evaluated: &Evaluated, sizes: &ByGroup) -> Result<Row<Ro
 /// - L11, a reference is bound to nothing and isn't weak; the first by leaf and number.
 ///
 /// It passes twice over the pieces and twice over the references, and looks each target of a GOT
-/// fixup up in a table. No object is copied. Want of memory may come where any of this grows.
+/// fixup up in a table, which hashes by the module's seed. No object is copied. Want of memory may
+/// come where any of this grows.
 pub fn lay(alloc: Global, evaluated: &Evaluated) -> Result<Layout, Fault<Refusal>>
     ensures laid { IsLaid result evaluated.now }
 {

@@ -9,6 +9,7 @@ use crate::slot::{Slot, is_got, target_at};
 use indexmap::IndexSet;
 use omos_base::{NoMemory, Row, Shared};
 use omos_model::{Entry, Fixup, Landing, Target};
+use seeded_hash::Seed;
 use std::alloc::Global;
 
 /// The fixups of a leaf, in order. A leaf is an object; a blueprint would have none.
@@ -23,7 +24,11 @@ pub fn fixups_in(leaf: &Shared<Entry>) -> &[Fixup]
 }
 
 /// Adds the slot of a reference, where it needs one that isn't there.
-fn add_slot(slots: &mut IndexSet<Slot>, fixup: &Fixup, landing: &Landing) -> Result<(), NoMemory>
+fn add_slot(
+    slots: &mut IndexSet<Slot, Seed>,
+    fixup: &Fixup,
+    landing: &Landing,
+) -> Result<(), NoMemory>
     ensures { OnOk result (slots.new.keys ≡ slots_with slots.old.keys (fixup.now, landing.now)) }
 {
     if is_got(fixup.kind) {
@@ -34,7 +39,7 @@ fn add_slot(slots: &mut IndexSet<Slot>, fixup: &Fixup, landing: &Landing) -> Res
 
 /// Adds the slots of a leaf's references.
 fn add_slots(
-    slots: &mut IndexSet<Slot>,
+    slots: &mut IndexSet<Slot, Seed>,
     fixups: &[Fixup],
     landings: &[Landing],
 ) -> Result<(), NoMemory>
@@ -49,7 +54,7 @@ fn add_slots(
 
 /// Adds the slots of all references, by leaf and number.
 fn fill_slots(
-    slots: &mut IndexSet<Slot>,
+    slots: &mut IndexSet<Slot, Seed>,
     leaves: &[Shared<Entry>],
     landings: &[Row<Landing>],
 ) -> Result<(), NoMemory>
@@ -62,16 +67,18 @@ fn fill_slots(
     Ok(())
 }
 
-/// The targets of the slots, in order of first use. It passes over the references once.
+/// The targets of the slots, in order of first use. It passes over the references once, and hashes
+/// targets by the seed.
 pub fn slots_of(
     alloc: Global,
+    seed: Seed,
     leaves: &[Shared<Entry>],
     landings: &[Row<Landing>],
 ) -> Result<Row<Target>, NoMemory>
     ensures { IfOk result (λ slots.
         slots ≡ fold slots_with_leaf [] (zip leaves.now landings.now)) }
 {
-    let mut slots = IndexSet::new(alloc);
+    let mut slots = IndexSet::with_hasher(alloc, seed);
     fill_slots(&mut slots, leaves, landings)?;
     let targets = slots.iter().map(|slot| slot.target()).collect(alloc)?;
     Ok(Row::from_vec(targets))
