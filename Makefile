@@ -11,6 +11,8 @@ STORE_CASES := crates/store_cases/out/store_cases
 
 TURNS := crates/turn_bench/out/turn_bench
 
+VERSION_BENCH := crates/version_bench/out/version_bench
+
 SHARED_CASES := crates/shared_cases/out/shared_cases
 
 WIRE_CASES := crates/wire_cases/out/wire_cases
@@ -23,7 +25,7 @@ COMPLETIONS := $(PREFIX)/share/bash-completion/completions
 SCRIPTS := omos-explain omos-put-dir omos-run
 
 .PHONY: help try try-test build demo server live test trials contrib docs house examples real \
-	links stores turns shares wires sweep bench memory clean install uninstall
+	links stores turns versions shares wires sweep bench memory clean install uninstall
 
 help:
 	@echo "make try     builds omosd and omos with no proof, in a minute or two, and runs the demo"
@@ -156,6 +158,10 @@ turns:
 	@cd crates/turn_bench && rt run -- 2 1000 > out.log 2>&1 || { tail -n 20 out.log; exit 1; }
 	@rm -f crates/turn_bench/out.log
 
+versions:
+	@cd crates/version_bench && rt run -- tree 100 > out.log 2>&1 || { tail -n 20 out.log; exit 1; }
+	@rm -f crates/version_bench/out.log
+
 shares:
 	@rm -f $(SHARED_CASES)
 	@cd crates/shared_cases && rt run > out.log 2>&1; test -x out/shared_cases || \
@@ -178,16 +184,17 @@ sweep: links
 	@tests/texts.py $(LINK_CASES)
 	@tests/versions.py $(LINK_CASES)
 
-bench: build links stores turns shares wires
+bench: build links stores turns versions shares wires
 	@bench/once.sh $(OMOSD)
 	@bench/objects.sh $(OMOSD)
 	@bench/operators.sh $(LINK_CASES)
 	@bench/evaluate.sh $(LINK_CASES)
 	@bench/sharing.sh $(LINK_CASES)
 	@bench/text.sh $(LINK_CASES)
-	@bench/publish.sh $(LINK_CASES)
+	@bench/publish.sh $(LINK_CASES) $(VERSION_BENCH)
 	@bench/store.sh $(STORE_CASES)
 	@bench/lock.sh $(TURNS)
+	@bench/collide.sh $(OMOSD)
 	@bench/wire.sh $(WIRE_CASES)
 	@bench/session.sh $(OMOSD)
 	@bench/cold.sh $(OMOSD)

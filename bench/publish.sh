@@ -1,10 +1,12 @@
 #!/usr/bin/env bash
 # Counts, by callgrind, the instructions and the allocations of one more publish on a version of so
 # many paths, and the instructions of a look-up there. The paths come in mixed order; the entries of
-# the last version are compared with what is wanted.
+# the last version are compared with what is wanted. Beside it stands a publish on a plain list, which
+# is copied, and the memory that 65,536 versions of 65,536 publishes hold when all are kept.
 #
-#   usage: bench/publish.sh LINK_CASES
+#   usage: bench/publish.sh LINK_CASES VERSION_BENCH
 set -eu
+versions=$(realpath "$2")
 . "$(dirname "$0")/counts.sh"
 
 MORE=64
@@ -47,3 +49,24 @@ for count in 4096 65536; do
     all_got=$(inside name_tree::snap::Snap::get)
     echo "$count paths: one more publish takes $(((all - fewer) / MORE)) instructions and $(python3 -c "print(round(($all_made - $fewer_made) / $MORE, 1))") allocations, a look-up $(((all_got - fewer_got) / MORE)) instructions"
 done
+
+publish() { # KIND FUNCTION COUNT: the instructions of one more publish on a version of so many paths
+    local fewer all
+    fewer=$(collected "--toggle-collect=version_bench::$2::publish" "$versions" "$1" "$3")
+    all=$(collected "--toggle-collect=version_bench::$2::publish" "$versions" "$1" "$(($3 + MORE))")
+    grep -qx "$(($3 + MORE)) paths" output || { echo "bench: $(cat output)" >&2; exit 1; }
+    echo "$(((all - fewer) / MORE))"
+}
+
+for count in 64 512 4096; do
+    echo "$count paths, its path made too: $(publish tree trees "$count") instructions as a tree, $(publish list listed "$count") as a list"
+done
+python3 - "$versions" << 'END'
+import resource, subprocess, sys
+line = subprocess.run([sys.argv[1], "kept", "65536"], capture_output=True, check=True, text=True).stdout
+if line != "65536 paths\n":
+    sys.exit(f"bench: {line}")
+held = resource.getrusage(resource.RUSAGE_CHILDREN).ru_maxrss
+print(f"65,536 versions of 65,536 publishes, all kept: {held / 1024:.0f} MB (300 at most)")
+sys.exit(held > 300 * 1024)
+END

@@ -56,23 +56,23 @@ kept_more ns (e ∷ es) p kept h f =
 -- ---- a run
 
 -- a walk through a blueprint's expression is a run
-pub run_of : (ns : Space) (above : List Name) (path : Name) (x : Tree) (v w : Visit) (t : Term)
-    → source ns path ≡ Some (Blueprint x) → nested_on (tree_in ns above path x) v ≡ Ok (t, w)
+pub run_of : (ns : Space) (limit : ℕ) (above : List Name) (path : Name) (x : Tree) (v w : Visit) (t : Term)
+    → source ns path ≡ Some (Blueprint x) → nested_on (tree_in ns limit above path x) v ≡ Ok (t, w)
     → IsRun ns path v.leaves t
-run_of ns above path x v w t there is =
-    go (tree_in ns above path x o) (front_tree (source ns) (32 - length above) above path x o) is
+run_of ns limit above path x v w t there is =
+    go (tree_in ns limit above path x o) (front_tree (source ns) (limit - length above) above path x o) is
   where
     o : Visit
     o = record v { node = 0 }
 
-    go : (y : Trail Term) → front y ≡ tree_at (source ns) (32 - length above) above path x o
+    go : (y : Trail Term) → front y ≡ tree_at (source ns) (limit - length above) above path x o
         → and_on y (λ u z. Ok (u, record z { node = v.node })) ≡ Ok (t, w) → IsRun ns path v.leaves t
     go (Ok r) e h =
         let pair : (r.0, record r.1 { node = v.node }) ≡ (t, w) = cc in
         let same : r.0 ≡ t = ap (λ (q : Term × Visit). q.0) pair in
         record {
           tree = x;
-          room = 32 - length above;
+          room = limit - length above;
           above = above;
           start = o;
           after = r.1;

@@ -1,5 +1,5 @@
 -- Which blueprints are open, and what became of the others.
-use Rattle.std.proofs.Common.{◌≡◌, ◌∙◌, ℕ, ◌+◌, ◌≤◌, Bool, true, false, ◌||◌, cond, List, [], ◌∷◌, ◌++◌, Option, Some, None, Ok, Err}
+use Rattle.std.proofs.Common.{◌≡◌, ◌∙◌, ℕ, ◌+◌, ◌≤◌, Bool, true, false, ◌||◌, ◌&&◌, cond, List, [], ◌∷◌, ◌++◌, Option, Some, None, Ok, Err}
 use Rattle.std.proofs.Common.{refl, sym, ap, subst, arith, true≢false, length, length-append, take}
 use Rattle.std.specs.Prelude.{MatchOption}
 use Rattle.std.proofs.Math.Seq.{take-append_seam}
@@ -7,7 +7,7 @@ use Rattle.std.specs.Prelude.{is_some}
 use Rattle.std.specs.Borrow.{Bor}
 use Rattle.std.specs.List.{list_any}
 use Rattle.std.specs.Map.{keys_of, lookup}
-use Rattle.std.proofs.lemmas.Bool.{or_left, or_right}
+use Rattle.std.proofs.lemmas.Bool.{and_from, and_parts, or_left, or_right}
 use Rattle.std.proofs.lemmas.List.Folds.{list_any-append}
 use Rattle.indexmap.specs.IndexMap.{insert_entry}
 use Rattle.omos_model.specs.Expansion.{Source, Object, Blueprint, source}
@@ -18,7 +18,11 @@ use Rattle.omos_model.specs.Namespace.{Space}
 use Rattle.omos_model.specs.Tree.{Tree}
 use Rattle.omos_model.specs.declared.entry.Stamped.{Stamped}
 use Rattle.omos_model.proofs.Names.{same_name-refl, same_name-true}
-use Rattle.module_eval.specs.Costs.{AreKnown, IsRead, IsReadAlone, due, is_built, operators, read_of}
+use Rattle.module_share.specs.Places.{AllNamed}
+use Rattle.module_share.proofs.Named.{WasOpened, named_so}
+use Rattle.module_eval.specs.Costs.{IsBuiltAlone, IsRead, IsReadAlone, StayBuilt, StayRead, is_built}
+use Rattle.module_eval.specs.Costs.{operators, read_of}
+use Rattle.module_eval.specs.Known.{AreKnown, is_closed, is_closed_in, is_done}
 use Rattle.module_eval.specs.declared.memo.Kept.{Kept}
 
 -- ---- what is kept
@@ -50,9 +54,28 @@ built_still (e ∷ es) p kept q h =
     go false false f k i =
         ap (λ d. is_some (cond d (Some e.1) (lookup (same_name q) (insert_entry same_name es p kept)))) f ∙ i k
 
+-- nothing else is kept
+pub built_only : (all : List (Name × Kept)) (p : Name) (kept : Kept) (q : Name)
+    → same_name q p ≡ false → is_built (insert_entry same_name all p kept) q ≡ true
+    → is_built all q ≡ true
+built_only [] p kept q out h =
+    absurd (true≢false (sym h ∙ ap (λ b. is_some (cond b (Some kept) None)) out))
+built_only (e ∷ es) p kept q out h =
+    go (same_name p e.0) (same_name q e.0) refl refl h (built_only es p kept q out)
+  where
+    go : (b c : Bool) → same_name p e.0 ≡ b → same_name q e.0 ≡ c
+        → is_built (cond b ((e.0, kept) ∷ es) (e ∷ insert_entry same_name es p kept)) q ≡ true
+        → (is_built (insert_entry same_name es p kept) q ≡ true → is_built es q ≡ true)
+        → is_some (cond c (Some e.1) (lookup (same_name q) es)) ≡ true
+    go b true is f k i = refl
+    go true false is f k i =
+        sym (ap (λ d. is_some (cond d (Some kept) (lookup (same_name q) es))) f) ∙ k
+    go false false is f k i =
+        i (sym (ap (λ d. is_some (cond d (Some e.1) (lookup (same_name q) (insert_entry same_name es p kept)))) f) ∙ k)
+
 -- ---- what is open
 
-last_among : (all above : List Name) (p : Name) → all ≡ above ++ p ∷ [] → is_among all p ≡ true
+pub last_among : (all above : List Name) (p : Name) → all ≡ above ++ p ∷ [] → is_among all p ≡ true
 last_among all above p is =
     ap (λ ps. is_among ps p) is
     ∙ list_any-append (same_name p) above (p ∷ [])
@@ -67,6 +90,11 @@ neither : (a b : Bool) → a ≡ false → b ≡ false → (a || (b || false)) �
 neither true b h k = absurd (true≢false h)
 neither false true h k = absurd (true≢false k)
 neither false false h k = refl
+
+pub not_last : (above : List Name) (p q : Name) → is_among above q ≡ false → same_name q p ≡ false
+    → is_among (above ++ p ∷ []) q ≡ false
+not_last above p q out e =
+    list_any-append (same_name q) above (p ∷ []) ∙ neither (is_among above q) (same_name q p) out e
 
 -- the last is closed
 pub popped_so : (o : Option Name) (old new above : List Name) (p : Name) → old ≡ above ++ p ∷ []
@@ -85,82 +113,221 @@ popped_so (Some last) old new above p is h =
     ∙ (λ i. take (same i) (whole i))
     ∙ take-append_seam above (p ∷ [])
 
--- a blueprint is read and opened
-pub known_opened : (ns : Space) (above more : List Name) (old new : List (Name × Bor Stamped))
-    (all : List (Name × Kept)) (p : Name) → more ≡ above ++ p ∷ [] → IsReadAlone old new p
-    → AreKnown ns above old all → AreKnown ns more new all
-known_opened ns above more old new all p is alone known = record { each = each }
-  where
-    each : (q : Name) (x : Tree) → source ns q ≡ Some (Blueprint x) → IsRead new q
-        → is_among more q ≡ false → is_built all q ≡ true
-    each q x there read out =
-        let parts = either (is_among above q) (same_name q p)
-        (sym (list_any-append (same_name q) above (p ∷ [])) ∙ sym (ap (λ ps. is_among ps q) is) ∙ out) in
-        known.each q x there (alone q parts.1 read) parts.0
+-- ---- what is done with
 
--- it is closed again
-pub known_closed : (ns : Space) (above more : List Name) (read : List (Name × Bor Stamped))
-    (all : List (Name × Kept)) (p : Name) → more ≡ above ++ p ∷ [] → is_built all p ≡ true
-    → AreKnown ns more read all → AreKnown ns above read all
-known_closed ns above more read all p is built known = record { each = each }
-  where
-    each : (q : Name) (x : Tree) → source ns q ≡ Some (Blueprint x) → IsRead read q
-        → is_among above q ≡ false → is_built all q ≡ true
-    each q x there isread out = go (same_name q p) refl
-      where
-        go : (b : Bool) → same_name q p ≡ b → is_built all q ≡ true
-        go true e = ap (is_built all) (same_name-true q p e) ∙ built
-        go false e =
-            known.each q x there isread
-            (ap (λ ps. is_among ps q) is
-            ∙ list_any-append (same_name q) above (p ∷ [])
-            ∙ neither (is_among above q) (same_name q p) out e)
+done_more : (ns : Space) (old new : List (Name × Bor Stamped)) (all : List (Name × Kept)) (q : Name)
+    → StayRead old new → is_done ns (keys_of old) all q ≡ true → is_done ns (keys_of new) all q ≡ true
+done_more ns old new all q stay h =
+    let parts = and_parts (is_among (keys_of old) q) (is_closed_in ns all q) h in
+    and_from (is_among (keys_of new) q) (is_closed_in ns all q) (stay q parts.0) parts.1
 
--- an object is read
-pub known_object : (ns : Space) (above : List Name) (old new : List (Name × Bor Stamped))
-    (all : List (Name × Kept)) (p : Name) (f : FragmentParts) → source ns p ≡ Some (Object f)
-    → IsReadAlone old new p → AreKnown ns above old all → AreKnown ns above new all
-known_object ns above old new all p f there alone known = record { each = each }
-  where
-    each : (q : Name) (x : Tree) → source ns q ≡ Some (Blueprint x) → IsRead new q
-        → is_among above q ≡ false → is_built all q ≡ true
-    each q x other read out = go (same_name q p) refl
-      where
-        go : (b : Bool) → same_name q p ≡ b → is_built all q ≡ true
-        go true e =
-            let same : Some (Object f) ≡ Some (Blueprint x) =
-            sym there ∙ ap (source ns) (sym (same_name-true q p e)) ∙ other in
-            absurd (apart f x same)
-          where
-            apart : (f : FragmentParts) (x : Tree) → Some (Object f) ≡ Some (Blueprint x) → ⊥
-            apart f x h = cc
-        go false e = known.each q x other (alone q e read) out
+closed_still : (o : Option Source) (b c : Bool) → (b ≡ true → c ≡ true) → is_closed o b ≡ true
+    → is_closed o c ≡ true
+closed_still None b c f h = h
+closed_still (Some (Object g)) b c f h = refl
+closed_still (Some (Blueprint x)) b c f h = f h
 
--- more is kept
-pub known_kept : (ns : Space) (above : List Name) (read : List (Name × Bor Stamped))
-    (old new : List (Name × Kept)) → ((q : Name) → is_built old q ≡ true → is_built new q ≡ true)
-    → AreKnown ns above read old → AreKnown ns above read new
-known_kept ns above read old new stay known =
-    record { each = λ q x there h out. stay q (known.each q x there h out) }
+open_still : (o : Option Source) (b c : Bool) → (c ≡ true → b ≡ true) → is_closed o b ≡ false
+    → is_closed o c ≡ false
+open_still None b c f h = refl
+open_still (Some (Object g)) b c f h = h
+open_still (Some (Blueprint x)) b true f h = absurd (true≢false (sym (f refl) ∙ h))
+open_still (Some (Blueprint x)) b false f h = refl
+
+done_kept : (ns : Space) (read : List Name) (old new : List (Name × Kept)) (q : Name)
+    → StayBuilt old new → is_done ns read old q ≡ true → is_done ns read new q ≡ true
+done_kept ns read old new q stay h =
+    let parts = and_parts (is_among read q) (is_closed_in ns old q) h in
+    and_from (is_among read q) (is_closed_in ns new q) parts.0
+    (closed_still (source ns q) (is_built old q) (is_built new q) (stay q) parts.1)
+
+-- what is under a path of another source
+other_source : (f : FragmentParts) (x : Tree) → Some (Object f) ≡ Some (Blueprint x) → ⊥
+other_source f x h = cc
+
+pub same_tree : (x y : Tree) → Some (Blueprint x) ≡ Some (Blueprint y) → x ≡ y
+same_tree x y h = cc
+
+inside : (above more : List Name) (p q : Name) → more ≡ above ++ p ∷ [] → is_among above q ≡ true
+    → is_among more q ≡ true
+inside above more p q is h =
+    ap (λ ps. is_among ps q) is
+    ∙ list_any-append (same_name q) above (p ∷ [])
+    ∙ or_left (is_among above q) (list_any (same_name q) (p ∷ [])) h
+
+outside : (above more : List Name) (p q : Name) → more ≡ above ++ p ∷ []
+    → is_among more q ≡ false → (is_among above q ≡ false) × (same_name q p ≡ false)
+outside above more p q is out =
+    either (is_among above q) (same_name q p)
+    (sym (list_any-append (same_name q) above (p ∷ [])) ∙ sym (ap (λ ps. is_among ps q) is) ∙ out)
+
+beyond : (above more : List Name) (p q : Name) → more ≡ above ++ p ∷ [] → is_among above q ≡ false
+    → same_name q p ≡ false → is_among more q ≡ false
+beyond above more p q is out e =
+    ap (λ ps. is_among ps q) is ∙ not_last above p q out e
+
+-- ---- what is known, as blueprints are opened and closed
+
+module _ (ns : Space) (above more : List Name) (old new : List (Name × Bor Stamped)) (apart : Bool) (all : List (Name × Kept)) (p : Name) where
+  still_closed : StayRead old new → AreKnown ns above old apart all → (q : Name) (x : Tree)
+      → source ns q ≡ Some (Blueprint x) → is_built all q ≡ true
+      → AllNamed (λ r. is_done ns (keys_of new) all r ≡ true) x
+  still_closed stay known q x there built =
+      named_so (λ r. is_done ns (keys_of old) all r ≡ true) (λ r. is_done ns (keys_of new) all r ≡ true)
+      (λ r. done_more ns old new all r stay) x (known.closed q x there built)
+
+  -- a blueprint is read and opened for the first time
+  pub known_opened : (x : Tree) → more ≡ above ++ p ∷ [] → IsReadAlone old new p → StayRead old new
+      → source ns p ≡ Some (Blueprint x) → is_built all p ≡ false
+      → AreKnown ns above old apart all → AreKnown ns more new apart all
+  known_opened x is alone stay there fresh known = record { each = each; closed = still_closed stay known; unkept = unkept }
+    where
+      each : (q : Name) (y : Tree) → source ns q ≡ Some (Blueprint y) → IsRead new q
+          → is_among more q ≡ false → is_built all q ≡ true
+      each q y here read out =
+          let parts = outside above more p q is out in
+          known.each q y here (alone q parts.1 read) parts.0
+
+      unkept : apart ≡ true → (q : Name) → is_among more q ≡ true
+          → is_closed_in ns all q ≡ false
+      unkept a q h = go (same_name q p) (is_among above q) refl refl
+        where
+          go : (b c : Bool) → same_name q p ≡ b → is_among above q ≡ c
+              → is_closed_in ns all q ≡ false
+          go true c e f =
+              ap (is_closed_in ns all) (same_name-true q p e)
+              ∙ ap (λ o. is_closed o (is_built all p)) there
+              ∙ fresh
+          go false true e f = known.unkept a q f
+          go false false e f = absurd (true≢false (sym h ∙ beyond above more p q is f e))
+
+  -- one that is kept is read again
+  pub known_again : IsReadAlone old new p → StayRead old new → is_built all p ≡ true
+      → AreKnown ns above old apart all → AreKnown ns above new apart all
+  known_again alone stay built known = record { each = each; closed = still_closed stay known; unkept = known.unkept }
+    where
+      each : (q : Name) (x : Tree) → source ns q ≡ Some (Blueprint x) → IsRead new q
+          → is_among above q ≡ false → is_built all q ≡ true
+      each q x there read out = go (same_name q p) refl
+        where
+          go : (b : Bool) → same_name q p ≡ b → is_built all q ≡ true
+          go true e = ap (is_built all) (same_name-true q p e) ∙ built
+          go false e = known.each q x there (alone q e read) out
+
+  -- an object is read
+  pub known_object : (f : FragmentParts) → source ns p ≡ Some (Object f) → IsReadAlone old new p
+      → StayRead old new → AreKnown ns above old apart all → AreKnown ns above new apart all
+  known_object f there alone stay known = record { each = each; closed = still_closed stay known; unkept = known.unkept }
+    where
+      each : (q : Name) (x : Tree) → source ns q ≡ Some (Blueprint x) → IsRead new q
+          → is_among above q ≡ false → is_built all q ≡ true
+      each q x other read out = go (same_name q p) refl
+        where
+          go : (b : Bool) → same_name q p ≡ b → is_built all q ≡ true
+          go true e =
+              absurd (other_source f x (sym there ∙ ap (source ns) (sym (same_name-true q p e)) ∙ other))
+          go false e = known.each q x other (alone q e read) out
+
+module _ (ns : Space) (above more : List Name) (read : List (Name × Bor Stamped)) (p : Name)
+    (is : more ≡ above ++ p ∷ []) where
+  -- one that is kept is opened again
+  pub known_reopened : (apart : Bool) (all : List (Name × Kept)) → AreKnown ns above read apart all
+      → AreKnown ns more read false all
+  known_reopened apart all known = record {
+    each = λ q x there h out. known.each q x there h (outside above more p q is out).0;
+    closed = known.closed;
+    unkept = λ a. absurd (true≢false (sym a));
+  }
+
+  -- and closed again
+  pub known_popped : (apart : Bool) (all : List (Name × Kept)) → is_built all p ≡ true
+      → AreKnown ns more read apart all → AreKnown ns above read apart all
+  known_popped apart all built known = record {
+    each = each;
+    closed = known.closed;
+    unkept = λ a q h. known.unkept a q (inside above more p q is h);
+  }
+    where
+      each : (q : Name) (x : Tree) → source ns q ≡ Some (Blueprint x) → IsRead read q
+          → is_among above q ≡ false → is_built all q ≡ true
+      each q x there h out = go (same_name q p) refl
+        where
+          go : (b : Bool) → same_name q p ≡ b → is_built all q ≡ true
+          go true e = ap (is_built all) (same_name-true q p e) ∙ built
+          go false e = known.each q x there h (beyond above more p q is out e)
+
+  -- one is closed for the first time, and kept
+  pub known_closed : (apart : Bool) (old new : List (Name × Kept)) (x : Tree) → is_among above p ≡ false → source ns p ≡ Some (Blueprint x)
+      → IsBuiltAlone old new p
+      → StayBuilt old new → is_built new p ≡ true
+      → AllNamed (WasOpened (source ns) (above ++ p ∷ []) (keys_of read)) x
+      → AreKnown ns more read apart old → AreKnown ns above read apart new
+  known_closed apart old new x out there alone stay built named known =
+      record { each = each; closed = closed; unkept = unkept }
+    where
+      each : (q : Name) (y : Tree) → source ns q ≡ Some (Blueprint y) → IsRead read q
+          → is_among above q ≡ false → is_built new q ≡ true
+      each q y here h free = go (same_name q p) refl
+        where
+          go : (b : Bool) → same_name q p ≡ b → is_built new q ≡ true
+          go true e = ap (is_built new) (same_name-true q p e) ∙ built
+          go false e = stay q (known.each q y here h (beyond above more p q is free e))
+
+      done : (r : Name) → WasOpened (source ns) (above ++ p ∷ []) (keys_of read) r
+          → is_done ns (keys_of read) new r ≡ true
+      done r h =
+          and_from (is_among (keys_of read) r) (is_closed_in ns new r) h.read
+          (go (source ns r) refl)
+        where
+          go : (o : Option Source) → source ns r ≡ o → is_closed o (is_built new r) ≡ true
+          go None e = absurd (h.there e)
+          go (Some (Object f)) e = refl
+          go (Some (Blueprint y)) e = stay r (known.each r y e h.read (ap (λ ps. is_among ps r) is ∙ h.free y e))
+
+      closed : (q : Name) (y : Tree) → source ns q ≡ Some (Blueprint y)
+          → is_built new q ≡ true
+          → AllNamed (λ r. is_done ns (keys_of read) new r ≡ true) y
+      closed q y here h = go (same_name q p) refl
+        where
+          go : (b : Bool) → same_name q p ≡ b
+              → AllNamed (λ r. is_done ns (keys_of read) new r ≡ true) y
+          go true e =
+              let same : x ≡ y = same_tree x y (sym there ∙ ap (source ns) (sym (same_name-true q p e)) ∙ here) in
+              subst (AllNamed (λ r. is_done ns (keys_of read) new r ≡ true)) same
+              (named_so (WasOpened (source ns) (above ++ p ∷ []) (keys_of read)) (λ r. is_done ns (keys_of read) new r ≡ true) done x named)
+          go false e =
+              named_so (λ r. is_done ns (keys_of read) old r ≡ true) (λ r. is_done ns (keys_of read) new r ≡ true)
+              (λ r. done_kept ns (keys_of read) old new r stay) y
+              (known.closed q y here (alone q e h))
+
+      unkept : apart ≡ true → (q : Name) → is_among above q ≡ true
+          → is_closed_in ns new q ≡ false
+      unkept a q h = go (same_name q p) refl
+        where
+          go : (b : Bool) → same_name q p ≡ b → is_closed_in ns new q ≡ false
+          go true e =
+              absurd (true≢false (sym h ∙ ap (is_among above) (same_name-true q p e) ∙ out))
+          go false e =
+              open_still (source ns q) (is_built old q) (is_built new q) (alone q e)
+              (known.unkept a q (inside above more p q is h))
 
 -- nothing was read yet
-pub known_first : (ns : Space) (above : List Name) (read : List (Name × Bor Stamped))
-    (all : List (Name × Kept)) → keys_of read ≡ [] → AreKnown ns above read all
-known_first ns above read all none =
-    record { each = λ q x there h out. absurd (true≢false (sym h ∙ ap (λ ps. is_among ps q) none)) }
+pub known_first : (ns : Space) (read : List (Name × Bor Stamped)) (apart : Bool)
+    (all : List (Name × Kept)) → keys_of read ≡ [] → all ≡ [] → AreKnown ns [] read apart all
+known_first ns read apart all none empty = record {
+  each = λ q x there h out. absurd (true≢false (sym h ∙ ap (λ ps. is_among ps q) none));
+  closed = λ q x there built. absurd (true≢false (sym built ∙ ap (λ es. is_built es q) empty));
+  unkept = λ a q h. absurd (true≢false (sym h));
+}
 
 -- the first use of a blueprint is charged to the path that is read for the first time
-pub charged : (ns : Space) (above : List Name) (old new : List (Name × Bor Stamped))
-    (all : List (Name × Kept)) (p : Name) (x : Tree) → AreKnown ns above old all
-    → source ns p ≡ Some (Blueprint x) → is_among above p ≡ false
-    → read_of ns old ≤ read_of ns new
+pub charged : (ns : Space) (above : List Name) (old new : List (Name × Bor Stamped)) (apart : Bool)
+    (all : List (Name × Kept)) (p : Name) (x : Tree) → AreKnown ns above old apart all → source ns p ≡ Some (Blueprint x)
+    → is_among above p ≡ false → is_built all p ≡ false
     → (is_among (keys_of old) p ≡ false → read_of ns old + operators x ≡ read_of ns new)
-    → read_of ns old + due (is_built all p) x ≤ read_of ns new
-charged ns above old new all p x known there out grown fresh =
-    go (is_built all p) (is_among (keys_of old) p) refl (λ read. known.each p x there read out)
+    → read_of ns old + operators x ≤ read_of ns new
+charged ns above old new apart all p x known there out unbuilt fresh = go (is_among (keys_of old) p) refl
   where
-    go : (b c : Bool) → is_among (keys_of old) p ≡ c → (is_among (keys_of old) p ≡ true → b ≡ true)
-        → read_of ns old + due b x ≤ read_of ns new
-    go true c e h = omega (arith, grown)
-    go false true e h = absurd (true≢false (sym (h e)))
-    go false false e h = let once = fresh e in omega (arith, once)
+    go : (c : Bool) → is_among (keys_of old) p ≡ c → read_of ns old + operators x ≤ read_of ns new
+    go true e = absurd (true≢false (sym (known.each p x there e out) ∙ unbuilt))
+    go false e = let once = fresh e in omega (arith, once)

@@ -1,5 +1,6 @@
 -- From a walk to what expansion gives, and what it has read.
-use Rattle.std.proofs.Common.{◌≡◌, ◌∙◌, ℕ, ◌+◌, ◌≤◌, false, Result, Ok, Err, List, sym, ap, subst}
+use Rattle.std.proofs.Common.{◌≡◌, ◌∙◌, ℕ, ◌+◌, ◌≤◌, false, Result, Ok, Err, List, refl, sym, ap, subst}
+use Rattle.std.specs.Prelude.{OnOk}
 use Rattle.omos_base.specs.declared.fault.Fault.{Fault}
 use Rattle.omos_base.specs.declared.fault.Fault.TheVariants.{Refused, NoMemory}
 use Rattle.omos_model.specs.Expansion.{expansion}
@@ -12,7 +13,8 @@ use Rattle.module_share.specs.Trails.{Trail, front, trail, visited}
 use Rattle.module_share.proofs.Fronts.{front_law}
 use Rattle.module_eval.specs.Costs.{IsPaid, operators_of, read_of}
 use Rattle.module_eval.specs.Counted.{visit_of}
-use Rattle.module_eval.specs.Walked.{Expands, Walked}
+use Rattle.module_eval.specs.Walked.{Expands, IsLimit, Walked}
+use Rattle.module_eval.specs.Known.{Deepens}
 use Rattle.module_eval.specs.declared.counts.Counts.{Counts}
 use Rattle.module_eval.specs.declared.part.Part.{Part}
 
@@ -31,3 +33,9 @@ paid ns path (Ok part) new old_steps new_steps h few =
 paid ns path (Err (Refused x)) new old_steps new_steps h few =
     subst (λ (w : Trail Term). new_steps ≤ old_steps + operators_of ns (visited w).read) (sym h) few
 paid ns path (Err NoMemory) new old_steps new_steps h few = tt
+
+-- the limit of all
+pub limit_of : (result : Result Part (Fault Refusal)) (old new : ℕ) → OnOk result (Deepens old new)
+    → IsLimit result new 32
+limit_of (Ok part) old new h = h.low
+limit_of (Err fault) old new h = refl

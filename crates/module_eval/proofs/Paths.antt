@@ -1,6 +1,6 @@
 -- The walk to a path, by what stands under it.
 use Rattle.std.proofs.Common.{◌≡◌, ℕ, zero, suc, Bool, true, false, List, [], ◌∷◌, ◌++◌, Option, Some, None, Ok, Err}
-use Rattle.std.proofs.Common.{◌-◌, ◌≤◌, length, length-append, cond, refl, sym, ap, ◌∙◌, arith}
+use Rattle.std.proofs.Common.{◌-◌, ◌<◌, ◌≤◌, length, length-append, cond, refl, sym, ap, ◌∙◌, arith}
 use Rattle.std.specs.Option.{option_map}
 use Rattle.std.specs.Prelude.{Result}
 use Rattle.omos_base.specs.declared.fault.Fault.{Fault}
@@ -24,6 +24,7 @@ use Rattle.module_eval.specs.Counted.{StepsToNode, visit_of}
 use Rattle.module_eval.specs.Walked.{Walked, Bars, path_in, tree_in}
 use Rattle.module_eval.specs.declared.counts.Counts.{Counts}
 use Rattle.module_eval.specs.declared.part.Part.{Part}
+use Rattle.module_eval.proofs.Joined.{means_any}
 
 module _ (ns : Name → Option Source) (above : List Name) (counted : Bool) (at p : Name) (v : Visit) where
   pub none_at : (room : ℕ) → ns p ≡ None
@@ -89,13 +90,11 @@ err_on_walk NoMemory walk more counting w h = tt
 -- ---- a blueprint
 
 -- it is refused for what bars it
-pub barred : (ns : Name → Option Source) (slice above : List Name) (counted : Bool) (at p : Name)
-    (t : Tree) (f : Fault Refusal) (counting : Bool) (w : Counts) → slice ≡ above
-    → ns p ≡ Some (Blueprint t) → Bars (Some f) slice at p (visit_of w).node
+pub barred : (ns : Name → Option Source) (above : List Name) (counted : Bool) (at p : Name)
+    (t : Tree) (f : Fault Refusal) (counting : Bool) (w : Counts) → ns p ≡ Some (Blueprint t)
+    → Bars (Some f) above at p (visit_of w).node
     → Walked counting (Err f) (expand_on ns (32 - length above) above counted at p (visit_of w)) w
-barred ns slice above counted at p t f counting w same there h =
-    let k = rw same at h in
-    go (is_among above p) refl k.0 k.1
+barred ns above counted at p t f counting w there h = go (is_among above p) refl h.0 h.1
   where
     v : Visit
     v = visit_of w
@@ -110,25 +109,43 @@ barred ns slice above counted at p t f counting w same there h =
         let deep = far e in
         told counting f (TooDeep (here at v) p) _ w d (deep_at ns above counted at p v (32 - length above) t there e (omega (arith, deep)))
 
-module _ (ns : Space) (slice above : List Name) (counted : Bool) (at p : Name) (v : Visit) (x : Tree)
-    (there : source ns p ≡ Some (Blueprint x)) (same : slice ≡ above)
-    (free : Bars None slice at p v.node) where
-  pub opened : path_in ns above counted at p v
-      ≡ and_on (begin_path_on counted at (add_read p v)) (λ s. nested_on (tree_in ns (above ++ p ∷ []) p x))
+module _ (ns : Space) (limit : ℕ) (above : List Name) (counted : Bool) (at p : Name) (v : Visit) (x : Tree)
+    (there : source ns p ≡ Some (Blueprint x)) (out : is_among above p ≡ false)
+    (few : length above < limit) where
+  pub opened : path_in ns limit above counted at p v
+      ≡ and_on (begin_path_on counted at (add_read p v)) (λ s. nested_on (tree_in ns limit (above ++ p ∷ []) p x))
   opened =
-      let h = rw same at free in
-      let few = h.1 in
-      opened_at (source ns) above counted at p v (32 - length above) (32 - length (above ++ p ∷ [])) x there h.0
+      opened_at (source ns) above counted at p v (limit - length above) (limit - length (above ++ p ∷ [])) x there out
       (omega (arith, few, length-append above (p ∷ [])))
 
   pub walked_inside : (counting : Bool) (r : Result Part (Fault Refusal)) (s : Site) (w y : Counts)
       → begin_path_on counted at (add_read p v) ≡ Ok (s, visit_of w)
-      → Walked counting r (nested_on (tree_in ns (above ++ p ∷ []) p x) (visit_of w)) y
-      → Walked counting r (path_in ns above counted at p v) y
+      → Walked counting r (nested_on (tree_in ns limit (above ++ p ∷ []) p x) (visit_of w)) y
+      → Walked counting r (path_in ns limit above counted at p v) y
   walked_inside counting r s w y begun h = rw (opened, begun) h
+
+  -- it isn't begun
+  pub not_opened : (counting : Bool) (f : Fault Refusal) (w : Counts)
+      → StepsToNode (Err f) at (begin_path_on counted at (add_read p v)) w
+      → Walked counting (Err f) (path_in ns limit above counted at p v) w
+  not_opened counting f w h =
+      rw opened (err_on_step f at (begin_path_on counted at (add_read p v)) (λ s. nested_on (tree_in ns limit (above ++ p ∷ []) p x)) counting w h)
 
 -- nodes with numbers of their own
 pub walked_nested : (counting : Bool) (part : Part) (x : Trailer Term) (v : Visit) (y : Counts)
     → Walked counting (Ok part) (x (record v { node = 0 })) y
     → Walked counting (Ok part) (nested_on x v) (record y { node = v.node })
 walked_nested counting part x v y h = (h.0, rw h.1 refl, h.2)
+
+-- what was built is known where the walk counts, too
+pub walked_any : (counting : Bool) (r : Result Part (Fault Refusal)) (walk : Trail Term) (w : Counts)
+    → Walked false r walk w → Walked counting r walk w
+walked_any counting (Ok part) walk w h = (h.0, h.1, means_any counting part h.0 h.2)
+walked_any counting (Err (Refused x)) walk w h = h
+walked_any counting (Err NoMemory) walk w h = tt
+
+-- a walk that counts is refused as one that doesn't
+pub refused_any : (one other : Bool) (f : Fault Refusal) (walk : Trail Term) (w : Counts)
+    → Walked one (Err f) walk w → Walked other (Err f) walk w
+refused_any one other (Refused x) walk w h = h
+refused_any one other NoMemory walk w h = tt

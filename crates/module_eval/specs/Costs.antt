@@ -41,11 +41,6 @@ operators_of ns paths = sum_by (λ p. operators_in (source ns p)) paths
 abbrev pub read_of : Space → List (Name × Bor Stamped) → ℕ
 read_of ns read = operators_of ns (keys_of read)
 
--- those that the first use of a blueprint applies, and no other
-abbrev pub due : Bool → Tree → ℕ
-due true x = 0
-due false x = operators x
-
 -- the operators of further operands, and those that join them
 abbrev pub joined : List Expr → ℕ
 joined [] = 0
@@ -72,16 +67,18 @@ IsRead read p = is_among (keys_of read) p ≡ true
 abbrev pub IsReadAlone : List (Name × Bor Stamped) → List (Name × Bor Stamped) → Name → Type 0
 IsReadAlone old new p = (q : Name) → same_name q p ≡ false → IsRead new q → IsRead old q
 
--- each blueprint that was read is open or kept
-pub record AreKnown
-    (ns : Space) (above : List Name) (read : List (Name × Bor Stamped)) (all : List (Name × Kept)) :
-    Type 0 where
-  pub each : (q : Name) (x : Tree) → source ns q ≡ Some (Blueprint x) → IsRead read q
-      → is_among above q ≡ false → is_built all q ≡ true
+-- each path that was read is still read
+abbrev pub StayRead : List (Name × Bor Stamped) → List (Name × Bor Stamped) → Type 0
+StayRead old new = (q : Name) → IsRead old q → IsRead new q
 
 -- what is kept stays
 abbrev pub StayBuilt : List (Name × Kept) → List (Name × Kept) → Type 0
 StayBuilt old new = (q : Name) → is_built old q ≡ true → is_built new q ≡ true
+
+-- nothing else is kept that wasn't but this one
+abbrev pub IsBuiltAlone : List (Name × Kept) → List (Name × Kept) → Name → Type 0
+IsBuiltAlone old new p =
+    (q : Name) → same_name q p ≡ false → is_built new q ≡ true → is_built old q ≡ true
 
 -- no more than one step for each operator in the distinct blueprints that the expansion reads,
 -- also where it is refused

@@ -1,5 +1,5 @@
 -- Tables of blueprints that are kept for further uses.
-use Rattle.std.specs.Prelude.{◌≡◌, ℕ, List, [], ◌∷◌, None, Some, Result, Ok, Err}
+use Rattle.std.specs.Prelude.{◌≡◌, ℕ, true, false, List, [], ◌∷◌, None, Some, Result, Ok, Err}
 use Rattle.std.specs.List.{AllByRecursion}
 use Rattle.omos_model.specs.Expansion.{Blueprint, source}
 use Rattle.omos_model.specs.FirstRefusal.{first_refusal}
@@ -12,6 +12,10 @@ use Rattle.omos_model.specs.declared.visit.Visit.{Visit}
 use Rattle.module_share.specs.Places.{tree_at}
 use Rattle.module_table.specs.Stands.{StandsFor}
 use Rattle.module_table.specs.TableParts.{TableParts}
+use Rattle.module_eval.specs.Costs.{is_built}
+use Rattle.module_eval.specs.Reaches.{IsReach}
+use Rattle.module_eval.specs.declared.memo.Found.{Found}
+use Rattle.module_eval.specs.declared.memo.Found.TheVariants as found
 use Rattle.module_eval.specs.declared.memo.Kept.{Kept}
 
 -- somewhere the blueprint's expression is expanded to this term, its first leaf having this number
@@ -31,11 +35,19 @@ abbrev pub StandsOr : Result TableParts Refusal → Term → Type 0
 StandsOr (Ok table) t = StandsFor table t × (first_refusal t ≡ None)
 StandsOr (Err x) t = first_refusal t ≡ Some x
 
--- what is kept is of such a term
+-- what is kept is of such a term, and its reach is the blueprint's
 pub record IsKept (ns : Space) (path : Name) (kept : Kept) : Type 0 where
   pub term : Term
+  pub reach : IsReach ns path kept.reach
   pub run : IsRun ns path kept.first term
   pub stands : StandsOr kept.built term
 
 pub record AreKept (ns : Space) (all : List (Name × Kept)) : Type 0 where
   pub each : AllByRecursion (λ e. IsKept ns e.0 e.1) all
+
+-- what is found of a path among what is kept
+abbrev pub Finds : Found → List (Name × Kept) → Name → Type 0
+Finds (found.Kept kept) all path =
+    (is_built all path ≡ true) × ((ns : Space) → AreKept ns all → IsKept ns path kept)
+Finds found.Nothing all path = is_built all path ≡ false
+Finds found.NoMemory all path = Unit {0}

@@ -42,6 +42,7 @@ fn expand<'a, L: Ledger>(
     requires first { visit_of counts.old ≡ first_visit }
     requires counted { AreCounted counts.old }
     requires none { memo.old.kept.entries ≡ [] }
+    requires low { memo.old.deepest ≡ 0 }
     ensures walk { Expands result (expansion snap.now.entries path.now) counts.new }
     ensures found { OnOk result (AreFound snap.now.entries counts.new.read.entries) }
     ensures cost { IsPaid result steps.old steps.new snap.now.entries path.now }

@@ -17,6 +17,7 @@ mod operator;
 mod outermost;
 mod part;
 mod pending;
+mod reach;
 mod read_path;
 mod refused;
 mod table_box;

@@ -1,14 +1,18 @@
 //! What became of the blueprints that were gone through.
 
-ghost use Rattle.std.specs.Prelude.{◌≡◌, [], false, true, IfOk, IfSome, OnOk, is_some};
+ghost use Rattle.std.specs.Prelude.{◌≡◌, [], false, true, IfOk, OnOk};
 ghost use Rattle.omos_model.specs.Names.{Name};
 ghost use Rattle.omos_model.specs.Namespace.{Space};
 ghost use Rattle.omos_model.specs.Term.{Term};
-ghost use Rattle.module_eval.specs.Costs.{StayBuilt, is_built};
-ghost use Rattle.module_eval.specs.Kept.{AreKept, IsKept, IsRun};
+ghost use Rattle.module_eval.specs.Costs.{IsBuiltAlone, StayBuilt, is_built};
+ghost use Rattle.module_eval.specs.Counted.{AreCounted, visit_of};
+ghost use Rattle.module_eval.specs.Kept.{AreKept, Finds, IsKept, IsRun};
 ghost use Rattle.module_eval.specs.Meant.{Means};
+ghost use Rattle.module_eval.specs.Reaches.{Fits, IsReach, with_added};
 
+use crate::counts::Counts;
 use crate::part::{Part, built};
+use crate::reach::Reach;
 use crate::read_path::ReadPath;
 use crate::refused;
 use crate::table_box::TableBox;
@@ -24,6 +28,7 @@ use std::alloc::Global;
 #[derive(Drop)]
 pub struct Kept {
     first: u32,
+    pub reach: Reach,
     /// Its table, or the first refusal of its operators.
     built: Result<SharedTable, Boxed<Refusal>>,
 }
@@ -31,7 +36,24 @@ pub struct Kept {
 /// What became of each blueprint that was gone through, but for the requested one.
 #[derive(Drop)]
 pub struct Memo<'a> {
+<<<<<<< HEAD
     kept: IndexMap<ReadPath<'a>, Kept, Seed>,
+=======
+    kept: IndexMap<ReadPath<'a>, Kept>,
+    /// No blueprint that is open is kept, so that what is kept may be used without a walk.
+    pub apart: bool,
+    /// How many blueprints stood inside one another at most, since the innermost that is open for
+    /// the first time was opened.
+    pub deepest: usize,
+}
+
+/// What is found of a path's blueprint.
+#[derive(Drop)]
+pub enum Found {
+    Kept(Kept),
+    Nothing,
+    NoMemory,
+>>>>>>> 25026e23a0400e9c3d8be986f06597f4557d8362
 }
 
 impl Kept {
@@ -40,14 +62,23 @@ impl Kept {
         ensures { IfOk result (λ kept. kept ≡ self.now) }
     {
         let first = self.first;
+        let reach = self.reach;
         match &self.built {
             Ok(table) => {
                 let built = Ok(table.twin()?);
-                Ok(Kept { first, built })
+                Ok(Kept {
+                    first,
+                    reach,
+                    built,
+                })
             }
             Err(refusal) => {
                 let built = Err(Boxed::new(alloc, refused::again(refusal.get())?)?);
-                Ok(Kept { first, built })
+                Ok(Kept {
+                    first,
+                    reach,
+                    built,
+                })
             }
         }
     }
@@ -61,6 +92,7 @@ impl Kept {
     {
         let Kept {
             first: before,
+            reach: _,
             built,
         } = self;
         match built {
@@ -73,27 +105,51 @@ impl Kept {
     }
 }
 
+impl Kept {
+    /// The blueprint once more, where its counts fit. They are added, and nothing is walked.
+    pub fn use_again(self, counts: &mut Counts<'_>) -> Result<Part, NoMemory>
+        requires counted { AreCounted counts.old }
+        requires fits { Fits self.reach.added (visit_of counts.old) }
+        ensures part { (ns : Space) (path : Name) (t : Term) → IsKept ns path self
+            → IsRun ns path counts.old.leaves t → IfOk result (λ part. Means false part t) }
+        ensures sum { visit_of counts.new ≡ with_added self.reach.added (visit_of counts.old) }
+        ensures read { counts.new.read ≡ counts.old.read }
+        ensures counted { AreCounted counts.new }
+    {
+        let first = counts.leaves;
+        self.reach.added.add_to(counts);
+        self.again(counts.alloc(), first)
+    }
+}
+
 impl<'a> Memo<'a> {
     /// Nothing is kept yet.
     pub fn new(alloc: Global, seed: Seed) -> Memo<'a>
         ensures kept { (ns : Space) → AreKept ns result.kept.entries }
         ensures none { result.kept.entries ≡ [] }
+        ensures low { result.deepest ≡ 0 }
     {
         Memo {
+<<<<<<< HEAD
             kept: IndexMap::with_hasher(alloc, seed),
+=======
+            kept: IndexMap::new(alloc),
+            apart: true,
+            deepest: 0,
+>>>>>>> 25026e23a0400e9c3d8be986f06597f4557d8362
         }
     }
 
     /// What became of a path's blueprint, if that is kept.
-    pub fn find(&self, alloc: Global, path: &PathName) -> Result<Option<Kept>, NoMemory>
-        ensures kept { (ns : Space) → AreKept ns self.now.kept.entries
-            → IfOk result (λ found. IfSome found (IsKept ns path.now)) }
-        ensures built { IfOk result
-            (λ found. is_built self.now.kept.entries path.now ≡ is_some found) }
+    pub fn find(&self, alloc: Global, path: &PathName) -> Found
+        ensures { Finds result self.now.kept.entries path.now }
     {
         match self.kept.get(&ReadPath::of(path)) {
-            Some(kept) => Ok(Some(kept.twin(alloc)?)),
-            None => Ok(None),
+            Some(kept) => match kept.twin(alloc) {
+                Ok(kept) => Found::Kept(kept),
+                Err(NoMemory) => Found::NoMemory,
+            },
+            None => Found::Nothing,
         }
     }
 
@@ -102,6 +158,10 @@ impl<'a> Memo<'a> {
             → AreKept ns self.old.kept.entries → AreKept ns self.new.kept.entries) }
         ensures here { OnOk result (is_built self.new.kept.entries path.now ≡ true) }
         ensures stays { OnOk result (StayBuilt self.old.kept.entries self.new.kept.entries) }
+        ensures others { OnOk result
+            (IsBuiltAlone self.old.kept.entries self.new.kept.entries path.now) }
+        ensures apart { self.new.apart ≡ self.old.apart }
+        ensures deepest { self.new.deepest ≡ self.old.deepest }
     {
         self.kept.insert(ReadPath::of(path), kept)?;
         Ok(())
@@ -115,28 +175,47 @@ impl<'a> Memo<'a> {
         alloc: Global,
         path: &'a PathName,
         first: u32,
+        reach: Reach,
         part: Part,
     ) -> Result<Part, NoMemory>
         ensures part { (ns : Space) (t : Term) → Means false part t → IsRun ns path.now first t
             → IfOk result (λ p. Means false p t) }
         ensures kept { (ns : Space) (t : Term) → Means false part t → IsRun ns path.now first t
-            → AreKept ns self.old.kept.entries
+            → IsReach ns path.now reach → AreKept ns self.old.kept.entries
             → OnOk result (AreKept ns self.new.kept.entries) }
         ensures here { (t : Term) → Means false part t
             → OnOk result (is_built self.new.kept.entries path.now ≡ true) }
         ensures stays { OnOk result (StayBuilt self.old.kept.entries self.new.kept.entries) }
+        ensures others { OnOk result
+            (IsBuiltAlone self.old.kept.entries self.new.kept.entries path.now) }
+        ensures apart { self.new.apart ≡ self.old.apart }
+        ensures deepest { self.new.deepest ≡ self.old.deepest }
     {
         match built(alloc, part)? {
             Some(Ok(table)) => {
                 let table = SharedTable::of(alloc, table.into_inner())?;
                 let own = table.instance(alloc, 0)?;
                 let built = Ok(table);
-                self.insert(path, Kept { first, built })?;
+                self.insert(
+                    path,
+                    Kept {
+                        first,
+                        reach,
+                        built,
+                    },
+                )?;
                 Ok(Part::Built(TableBox::new(alloc, own)?))
             }
             Some(Err(refusal)) => {
                 let built = Err(Boxed::new(alloc, refused::again(refusal.get())?)?);
-                self.insert(path, Kept { first, built })?;
+                self.insert(
+                    path,
+                    Kept {
+                        first,
+                        reach,
+                        built,
+                    },
+                )?;
                 Ok(Part::Failed(refusal))
             }
             None => Ok(Part::Counted),

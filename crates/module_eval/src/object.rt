@@ -7,7 +7,7 @@ ghost use Rattle.omos_model.specs.FragmentParts.{FragmentParts};
 ghost use Rattle.module_table.specs.Stands.{IsObject};
 ghost use Rattle.module_eval.specs.Counted.{AreCounted, visit_of};
 ghost use Rattle.omos_model.specs.Namespace.{Space, look_up};
-ghost use Rattle.module_eval.specs.Costs.{IsReadAlone, read_of};
+ghost use Rattle.module_eval.specs.Costs.{IsReadAlone, StayRead, read_of};
 ghost use Rattle.module_eval.specs.Found.{AreFound};
 ghost use Rattle.module_eval.specs.Walked.{Walked};
 
@@ -42,6 +42,7 @@ pub fn visit_object<'a>(
         ≤ read_of ns counts.new.read.entries }
     ensures alone { OnOk result
         (IsReadAlone counts.old.read.entries counts.new.read.entries path.now) }
+    ensures stay { OnOk result (StayRead counts.old.read.entries counts.new.read.entries) }
 {
     let Entry::Object(fragment) = found.entry.get() else {
         unreachable!()

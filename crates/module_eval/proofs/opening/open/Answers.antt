@@ -3,11 +3,11 @@ use Rattle.module_eval.proofs.Known.{charged, known_opened}
 use Rattle.module_eval.proofs.opening.open.Goals as goal
 
 pub returns-clause-known : goal.returns-clause-known
-returns-clause-known c ns all known =
-    known_opened ns c.args.above.now c.push.new.self c.args.counts.now.read.entries c.enter.new.counts.read.entries all c.args.path.now
-    (rw c.copy.ensures at c.in_ok-push.ensures.ok) c.in_ok-node.ensures.alone known
+returns-clause-known c ns x apart all there fresh known =
+    known_opened ns c.args.above.now c.push.new.self c.args.counts.now.read.entries c.enter.new.counts.read.entries apart all c.args.path.now x
+    (rw c.copy.ensures at c.in_ok-push.ensures.ok) c.in_ok-node.ensures.alone c.in_ok-node.ensures.stay there fresh known
 
 pub returns-clause-cost : goal.returns-clause-cost
-returns-clause-cost c ns x all known there out =
-    charged ns c.args.above.now c.args.counts.now.read.entries c.enter.new.counts.read.entries all c.args.path.now x known there out
-    (c.in_ok-node.ensures.grown ns) (c.in_ok-node.ensures.fresh ns x there)
+returns-clause-cost c ns x apart all known there out fresh =
+    charged ns c.args.above.now c.args.counts.now.read.entries c.enter.new.counts.read.entries apart all c.args.path.now x known there out fresh
+    (c.in_ok-node.ensures.fresh ns x there)

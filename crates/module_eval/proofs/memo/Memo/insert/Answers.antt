@@ -2,7 +2,7 @@ use Rattle.std.proofs.Common.{◌≡◌, true, sym, subst}
 use Rattle.module_eval.specs.Costs.{is_built}
 use Rattle.module_eval.specs.Kept.{AreKept}
 use Rattle.module_eval.proofs.Again.{kept_more}
-use Rattle.module_eval.proofs.Known.{built_still}
+use Rattle.module_eval.proofs.Known.{built_only, built_still}
 use Rattle.module_eval.proofs.memo.Memo.insert.Goals as goal
 
 pub returns-clause-kept : goal.returns-clause-kept
@@ -14,3 +14,8 @@ pub returns-clause-stays : goal.returns-clause-stays
 returns-clause-stays c q h =
     subst (λ es. is_built es q ≡ true) (sym (rw c.of.ensures at c.in_ok-insert.ensures.entries))
     (built_still c.args.self.now.kept.entries c.args.path.now c.args.kept q h)
+
+pub returns-clause-others : goal.returns-clause-others
+returns-clause-others c q out h =
+    built_only c.args.self.now.kept.entries c.args.path.now c.args.kept q out
+    (subst (λ es. is_built es q ≡ true) (rw c.of.ensures at c.in_ok-insert.ensures.entries) h)
