@@ -36,10 +36,7 @@ pub struct Kept {
 /// What became of each blueprint that was gone through, but for the requested one.
 #[derive(Drop)]
 pub struct Memo<'a> {
-<<<<<<< HEAD
     kept: IndexMap<ReadPath<'a>, Kept, Seed>,
-=======
-    kept: IndexMap<ReadPath<'a>, Kept>,
     /// No blueprint that is open is kept, so that what is kept may be used without a walk.
     pub apart: bool,
     /// How many blueprints stood inside one another at most, since the innermost that is open for
@@ -53,7 +50,6 @@ pub enum Found {
     Kept(Kept),
     Nothing,
     NoMemory,
->>>>>>> 25026e23a0400e9c3d8be986f06597f4557d8362
 }
 
 impl Kept {
@@ -130,13 +126,9 @@ impl<'a> Memo<'a> {
         ensures low { result.deepest ≡ 0 }
     {
         Memo {
-<<<<<<< HEAD
             kept: IndexMap::with_hasher(alloc, seed),
-=======
-            kept: IndexMap::new(alloc),
             apart: true,
             deepest: 0,
->>>>>>> 25026e23a0400e9c3d8be986f06597f4557d8362
         }
     }
 
