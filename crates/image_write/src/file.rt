@@ -83,7 +83,7 @@ pub fn write(
     ensures written { Writes evaluated.now base result }
 {
     let groups = groups_in(evaluated, layout);
-    let table = SlotTable::of(alloc, layout.slots(), base + groups.slots)?;
+    let table = SlotTable::of(alloc, evaluated.seed(), layout.slots(), base + groups.slots)?;
     let ground = Ground {
         places: layout.places(),
         table: &table,

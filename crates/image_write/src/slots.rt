@@ -9,24 +9,30 @@ use indexmap::IndexMap;
 use link_layout::Slot;
 use omos_base::{NoMemory, Row, put_u64};
 use omos_model::Target;
+use seeded_hash::Seed;
 use std::alloc::Global;
 
 /// The addresses of the slots, by their targets.
 #[derive(Drop)]
 pub struct SlotTable {
-    addresses: IndexMap<Slot, u64>,
+    addresses: IndexMap<Slot, u64, Seed>,
     /// The address behind the last slot.
     behind: u64,
 }
 
 impl SlotTable {
-    /// The table of these slots, the first of which has this address.
-    pub fn of(alloc: Global, slots: &[Target], first: u64) -> Result<SlotTable, NoMemory>
+    /// The table of these slots, the first of which has this address. It hashes by the seed.
+    pub fn of(
+        alloc: Global,
+        seed: Seed,
+        slots: &[Target],
+        first: u64,
+    ) -> Result<SlotTable, NoMemory>
         requires slots { length slots.now ≤ 2 ^ 20 }
         requires first { first ≤ 2 ^ 60 }
         ensures { IfOk result (λ table. IsTable table slots.now first) }
     {
-        let mut addresses = IndexMap::with_capacity(alloc, slots.len())?;
+        let mut addresses = IndexMap::with_capacity_and_hasher(alloc, slots.len(), seed)?;
         // From the last to the first, so that the first of a target is the one that stays.
         let mut at = slots.len();
         while at > 0 {
