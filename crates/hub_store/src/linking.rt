@@ -38,9 +38,9 @@ impl Store {
         let Some(position) = self.cache.find(path, &self.snap, self.history.published()) else {
             let version = tally.version;
             let placed = self.book.len();
-            let Ok(ticket) =
-                Ticket::new(self.alloc, seat, number, path, version, placed, &self.snap)
-            else {
+            let Ok(ticket) = Ticket::new(
+                self.alloc, seat, number, path, version, placed, &self.snap,
+            ) else {
                 self.history.push_missed(seat, number);
                 return AskReply::NoMemory;
             };
@@ -98,7 +98,8 @@ impl Store {
         ensures { Appended self.old self.new
             (ending self.old.limits.cache self.old.steps ticket.now note) }
     {
-        self.history.push_answered(ticket.seat(), ticket.number(), note);
+        self.history
+            .push_answered(ticket.seat(), ticket.number(), note);
     }
 
     /// Ends a link request with its image, which is stored where that is due.

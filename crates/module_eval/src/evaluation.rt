@@ -25,8 +25,8 @@ use module_table::{Steps, Table};
 use name_tree::Snap;
 use omos_base::{Fault, NoMemory, PathName};
 use omos_model::{Refusal, Stamped};
-use sqlite_items::Items;
 use seeded_hash::Seed;
+use sqlite_items::Items;
 use std::alloc::Global;
 use std::sync::ledger::Ledger;
 

@@ -14,12 +14,7 @@ use omos_model::Target;
 use std::alloc::Global;
 
 /// Puts one definition, whose name is shared.
-fn put(
-    into: &mut Definitions,
-    name: &SymName,
-    target: Target,
-    shift: u32,
-) -> Result<(), NoMemory>
+fn put(into: &mut Definitions, name: &SymName, target: Target, shift: u32) -> Result<(), NoMemory>
     ensures { OnOk result ((n : Name) → held into.new.entries n
         ≡ (if same_name name.now n then Some (shifted_target shift target)
         else held into.old.entries n)) }

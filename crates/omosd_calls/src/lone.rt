@@ -53,11 +53,7 @@ fn evaluate(alloc: Global, seed: Seed, fragment: Fragment) -> Result<Evaluated, 
 }
 
 /// The image of a file's object, or why it has none. The table of its names hashes by the seed.
-pub(crate) fn lone_image(
-    alloc: Global,
-    seed: Seed,
-    file: &[u8],
-) -> Result<Bytes, Fault<Cause>>
+pub(crate) fn lone_image(alloc: Global, seed: Seed, file: &[u8]) -> Result<Bytes, Fault<Cause>>
     ensures { MatchFault result
         (λ image. lone_answer file.now ≡ Ok image) (λ cause. lone_answer file.now ≡ Err cause) }
 {

@@ -3,8 +3,8 @@
 use anyhow::{Context, Result, bail};
 use omos_base::{Bytes, Row};
 use omos_outside::{MemorySink, MemorySource};
-use session_calls::omosd_stdio;
 use seeded_hash::Seed;
+use session_calls::omosd_stdio;
 use std::alloc::Global;
 use workload_calls::omosd_workload;
 
@@ -72,7 +72,12 @@ fn sink_of(alloc: Global, way: Way) -> Result<MemorySink> {
     if way.write_step == 0 {
         bail!("a write takes at least a byte");
     }
-    Ok(MemorySink::new(alloc, way.room, way.write_step, failing(alloc, way.failing_write)?)?)
+    Ok(MemorySink::new(
+        alloc,
+        way.room,
+        way.write_step,
+        failing(alloc, way.failing_write)?,
+    )?)
 }
 
 /// Runs the words over a stream.

@@ -21,7 +21,12 @@ fn append(list: &mut Vec<Stamped>, more: &[Stamped]) -> Result<()> {
 
 /// The next version, whose path is new.
 #[inline(never)]
-fn publish(alloc: Global, list: &[Stamped], number: u32, entry: &Shared<Entry>) -> Result<Vec<Stamped>> {
+fn publish(
+    alloc: Global,
+    list: &[Stamped],
+    number: u32,
+    entry: &Shared<Entry>,
+) -> Result<Vec<Stamped>> {
     let path = path_of(number)?;
     let at = count_below(list, &path).min(list.len());
     let (below, above) = list.split_at(at);
