@@ -1,6 +1,6 @@
 //! What kind of file it is that is no object.
 
-use crate::elf::header;
+use crate::elf::{header, section_name};
 
 const ET_EXEC: u16 = 2;
 
@@ -34,6 +34,27 @@ fn guess_elf(file: &[u8]) -> Option<&'static str> {
         },
         _ => return None,
     })
+}
+
+/// Whether the file is an object with sections of gcc's intermediate code.
+fn holds_gcc_code(file: &[u8]) -> bool {
+    let Some(header) = header(file) else {
+        return false;
+    };
+    for number in 0..u32::from(header.e_shnum) {
+        if section_name(file, number).is_some_and(|name| name.starts_with(".gnu.lto_")) {
+            return true;
+        }
+    }
+    false
+}
+
+/// What may be why an object lacks what it should define.
+pub(crate) fn guess_lack(file: &[u8]) -> Option<&'static str> {
+    if holds_gcc_code(file) {
+        return Some("It holds gcc's intermediate code: compile without -flto.");
+    }
+    None
 }
 
 /// Whether a byte stands in texts: printable ASCII, a tab or the end of a line, or beyond ASCII.

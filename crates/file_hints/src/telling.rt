@@ -1,6 +1,6 @@
 //! Telling on standard error what a refused file is.
 
-use crate::guess::guess;
+use crate::guess::{guess, guess_lack};
 use crate::hint::{Hint, of_relocation, of_section, of_symbol};
 use crate::undefined::Undefined;
 use omos_adapt::RealFiles;
@@ -28,8 +28,9 @@ fn read_again<R: Files>(rt: &R, alloc: Global, name: &str) -> Option<Bytes> {
 
 /// Prints what is known of a refused file beside the sentences of its refusal, at most one line, on
 /// standard error behind the program's name: for O1 to O4 what the file seems to be; for O5, O6 and
-/// O10 the section's name; for O8 the symbol's; for O11 the relocation's type and symbol; for L11
-/// which other names the object leaves undefined. `line` is the line that was printed for it.
+/// O10 the section's name; for O8 the symbol's; for O11 the relocation's type and symbol; for L10
+/// whether it holds code of gcc's -flto; for L11 which other names the object leaves undefined.
+/// `line` is the line that was printed for it.
 ///
 /// The file is read anew, and only where it is one that can be. What can't be printed is passed
 /// over, since the output and the status say all that a program asks.
@@ -42,17 +43,21 @@ pub fn tell_file<R: Files + Eprint>(rt: &R, alloc: Global, program: &str, line: 
     };
     let file = file.as_slice();
     match word_at(line, 1) {
-        "O1" | "O2" | "O3" | "O4" => {
-            if let Some(kind) = guess(file) {
-                let _ = eprintln!(rt; "{program}: {kind}");
-            }
-        }
+        "O1" | "O2" | "O3" | "O4" => tell_guess(rt, program, guess(file)),
+        "L10" => tell_guess(rt, program, guess_lack(file)),
         "L11" => tell_undefined(rt, program, word_at(line, 4), file),
         _ => {
             if let Some(hint) = hint_of(line, file) {
                 let _ = eprintln!(rt; "{program}: {hint}");
             }
         }
+    }
+}
+
+/// Prints a guess, if there is one.
+fn tell_guess(rt: &impl Eprint, program: &str, guess: Option<&'static str>) {
+    if let Some(text) = guess {
+        let _ = eprintln!(rt; "{program}: {text}");
     }
 }
 
