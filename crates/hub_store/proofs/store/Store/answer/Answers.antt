@@ -12,43 +12,44 @@ use Rattle.hub_store.proofs.store.Store.answer.Goals as goal
 
 pub push_answered-requires : goal.push_answered-requires
 push_answered-requires c =
-    let ticket = rw (← c.ticket.view_is, ← c.self.view_is) at c.requires.ticket in
+    let ticket = rw (← c.self.view_is) at c.requires.ticket in
     omega (arith, ticket_room _ _ _ _ _ _ c.self.invariant.0 ticket)
 
 pub invariant_of-self : goal.invariant_of-self
 invariant_of-self c =
-    let ticket = rw (← c.ticket.view_is, ← c.self.view_is) at c.requires.ticket in
-    let image = rw (← c.ticket.view_is, ← c.self.view_is) at c.requires.image in
+    let ticket = rw (← c.self.view_is) at c.requires.ticket in
+    let image = rw (← c.self.view_is) at c.requires.image in
     let base = c.base.ensures.base ∙ ap (λ (l : LinkedImage). l.base) c.get-2.ensures in
-    let new = as_new_told _ _ _ (facts_apart _ _ _ _ c.self.invariant.0.told) ∙ sym c.if-has_as_new.ensures in
+    let new = rw (c.path.ensures, c.version-version.ensures) at (as_new_told _ _ _ (facts_apart _ _ _ _ c.self.invariant.0.told) ∙ sym c.if-has_as_new.ensures) in
     let is = subst (λ (l : LinkedImage). answer l.footprint l.path l.base ≡ Ok l.bytes) c.get.ensures c.is_answer.ensures in
     let may = image_may_end _ _ c.args.image image.0 ticket image.1 is in
-    rw (c.push_answered.ensures.steps, c.push_answered.ensures.capacity, base)
-    (after_unstored _ _ _ _ _ _ _ c.self.invariant.0 ticket may (storing_none c.self.inside.cache.capacity c.self.inside.cache.items c.ticket.inside.seat c.ticket.inside.number c.ticket.inside.path c.ticket.inside.version new), c.self.invariant.1, c.self.invariant.2)
+    rw (c.push_answered.ensures.steps, c.push_answered.ensures.capacity, c.seat-seat.ensures, c.number-number.ensures, base)
+    (after_unstored _ _ _ _ _ _ _ c.self.invariant.0 ticket may (storing_none c.self.inside.cache.capacity c.self.inside.cache.items c.args.ticket.now.seat c.args.ticket.now.number c.args.ticket.now.path c.args.ticket.now.version new), c.self.invariant.1, c.self.invariant.2)
 
 pub returns-then-has_as_new : goal.returns-then-has_as_new
 returns-then-has_as_new c =
-    let ticket = rw (← c.ticket.view_is, ← c.self.view_is) at c.requires.ticket in
-    let image = rw (← c.ticket.view_is, ← c.self.view_is) at c.requires.image in
+    let ticket = rw (← c.self.view_is) at c.requires.ticket in
+    let image = rw (← c.self.view_is) at c.requires.image in
     let base = c.base.ensures.base ∙ ap (λ (l : LinkedImage). l.base) c.get-2.ensures in
-    let new = as_new_told _ _ _ (facts_apart _ _ _ _ c.self.invariant.0.told) ∙ sym c.if-has_as_new.ensures in
+    let new = rw (c.path.ensures, c.version-version.ensures) at (as_new_told _ _ _ (facts_apart _ _ _ _ c.self.invariant.0.told) ∙ sym c.if-has_as_new.ensures) in
     rw (
       ← c.self.view_is,
-      ← c.ticket.view_is,
       c.push_answered.ensures.steps,
       c.push_answered.ensures.capacity,
+      c.seat-seat.ensures,
+      c.number-number.ensures,
       base,
-      unstored_ending _ _ _ _ _ _ c.args.image.base c.self.invariant.0 ticket (storing_none c.self.inside.cache.capacity c.self.inside.cache.items c.ticket.inside.seat c.ticket.inside.number c.ticket.inside.path c.ticket.inside.version new),
+      unstored_ending _ _ _ _ _ _ c.args.image.base c.self.invariant.0 ticket (storing_none c.self.inside.cache.capacity c.self.inside.cache.items c.args.ticket.now.seat c.args.ticket.now.number c.args.ticket.now.path c.args.ticket.now.version new),
     ) refl
 
 pub push_evicted-requires : goal.push_evicted-requires
 push_evicted-requires c =
-    let ticket = rw (← c.ticket.view_is, ← c.self.view_is) at c.requires.ticket in
+    let ticket = rw (← c.self.view_is) at c.requires.ticket in
     omega (arith, ticket_room _ _ _ _ _ _ c.self.invariant.0 ticket, ap length c.push_answered.ensures.steps, length_push c.self.inside.history.steps, c.push_answered.ensures.capacity)
 
 pub push_stored-requires : goal.push_stored-requires
 push_stored-requires c =
-    let ticket = rw (← c.ticket.view_is, ← c.self.view_is) at c.requires.ticket in
+    let ticket = rw (← c.self.view_is) at c.requires.ticket in
     omega (
       arith,
       ticket_room _ _ _ _ _ _ c.self.invariant.0 ticket,
@@ -62,15 +63,15 @@ push_stored-requires c =
 
 pub invariant_of-self-in-Some : goal.invariant_of-self-in-Some
 invariant_of-self-in-Some c =
-    let ticket = rw (← c.ticket.view_is, ← c.self.view_is) at c.requires.ticket in
-    let image = rw (← c.ticket.view_is, ← c.self.view_is) at c.requires.image in
+    let ticket = rw (← c.self.view_is) at c.requires.ticket in
+    let image = rw (← c.self.view_is) at c.requires.image in
     let base = c.base.ensures.base ∙ ap (λ (l : LinkedImage). l.base) c.get-2.ensures in
-    let new = as_new_told _ _ _ (facts_apart _ _ _ _ c.self.invariant.0.told) ∙ sym c.if-has_as_new.ensures in
+    let new = rw (c.path.ensures, c.version-version.ensures) at (as_new_told _ _ _ (facts_apart _ _ _ _ c.self.invariant.0.told) ∙ sym c.if-has_as_new.ensures) in
     let is = subst (λ (l : LinkedImage). answer l.footprint l.path l.base ≡ Ok l.bytes) c.get.ensures c.is_answer.ensures in
     let may = image_may_end _ _ c.args.image image.0 ticket image.1 is in
     let gone = ap (leaving c.self.inside.cache) (sym image.1.path) ∙ sym c.in-Some.ensures.leaving in
-    let due = storing_is c.self.inside.cache.capacity c.self.inside.cache.items c.ticket.inside.seat c.ticket.inside.number c.ticket.inside.path c.ticket.inside.version c.in-Some.ensures.some new
-    ∙ ap (λ o. Some (step_for c.ticket.inside.seat c.ticket.inside.number c.ticket.inside.path c.ticket.inside.version o)) gone in
+    let due = storing_is c.self.inside.cache.capacity c.self.inside.cache.items c.args.ticket.now.seat c.args.ticket.now.number c.args.ticket.now.path c.args.ticket.now.version c.in-Some.ensures.some new
+    ∙ ap (λ o. Some (step_for c.args.ticket.now.seat c.args.ticket.now.number c.args.ticket.now.path c.args.ticket.now.version o)) gone in
     rw (
       c.push_stored.ensures.steps,
       c.push_stored.ensures.capacity,
@@ -80,22 +81,25 @@ invariant_of-self-in-Some c =
       c.push_answered.ensures.capacity,
       c.in-Some.ensures.capacity,
       c.in-Some.ensures.items,
+      c.path-in-Some.ensures,
+      c.seat-seat.ensures,
+      c.number-number.ensures,
+      c.version-version.ensures,
       base,
     )
     (after_evicting _ _ _ _ _ _ c.args.image image.0 c.in-Some.path c.self.invariant.0 ticket image.1 may due, c.self.invariant.1, c.self.invariant.2)
 
 pub returns-in-Some : goal.returns-in-Some
 returns-in-Some c =
-    let ticket = rw (← c.ticket.view_is, ← c.self.view_is) at c.requires.ticket in
-    let image = rw (← c.ticket.view_is, ← c.self.view_is) at c.requires.image in
+    let ticket = rw (← c.self.view_is) at c.requires.ticket in
+    let image = rw (← c.self.view_is) at c.requires.image in
     let base = c.base.ensures.base ∙ ap (λ (l : LinkedImage). l.base) c.get-2.ensures in
-    let new = as_new_told _ _ _ (facts_apart _ _ _ _ c.self.invariant.0.told) ∙ sym c.if-has_as_new.ensures in
+    let new = rw (c.path.ensures, c.version-version.ensures) at (as_new_told _ _ _ (facts_apart _ _ _ _ c.self.invariant.0.told) ∙ sym c.if-has_as_new.ensures) in
     let gone = ap (leaving c.self.inside.cache) (sym image.1.path) ∙ sym c.in-Some.ensures.leaving in
-    let due = storing_is c.self.inside.cache.capacity c.self.inside.cache.items c.ticket.inside.seat c.ticket.inside.number c.ticket.inside.path c.ticket.inside.version c.in-Some.ensures.some new
-    ∙ ap (λ o. Some (step_for c.ticket.inside.seat c.ticket.inside.number c.ticket.inside.path c.ticket.inside.version o)) gone in
+    let due = storing_is c.self.inside.cache.capacity c.self.inside.cache.items c.args.ticket.now.seat c.args.ticket.now.number c.args.ticket.now.path c.args.ticket.now.version c.in-Some.ensures.some new
+    ∙ ap (λ o. Some (step_for c.args.ticket.now.seat c.args.ticket.now.number c.args.ticket.now.path c.args.ticket.now.version o)) gone in
     rw (
       ← c.self.view_is,
-      ← c.ticket.view_is,
       c.push_stored.ensures.steps,
       c.push_stored.ensures.capacity,
       c.push_evicted.ensures.steps,
@@ -103,6 +107,10 @@ returns-in-Some c =
       c.push_answered.ensures.steps,
       c.push_answered.ensures.capacity,
       c.in-Some.ensures.capacity,
+      c.path-in-Some.ensures,
+      c.seat-seat.ensures,
+      c.number-number.ensures,
+      c.version-version.ensures,
       base,
       evicting_ending _ _ _ _ _ _ c.args.image.base c.in-Some.path c.self.invariant.0 ticket due,
       append_assoc,
@@ -111,20 +119,20 @@ returns-in-Some c =
 
 pub push_stored-requires-2 : goal.push_stored-requires-2
 push_stored-requires-2 c =
-    let ticket = rw (← c.ticket.view_is, ← c.self.view_is) at c.requires.ticket in
+    let ticket = rw (← c.self.view_is) at c.requires.ticket in
     omega (arith, ticket_room _ _ _ _ _ _ c.self.invariant.0 ticket, ap length c.push_answered.ensures.steps, length_push c.self.inside.history.steps, c.push_answered.ensures.capacity)
 
 pub invariant_of-self-2 : goal.invariant_of-self-2
 invariant_of-self-2 c =
-    let ticket = rw (← c.ticket.view_is, ← c.self.view_is) at c.requires.ticket in
-    let image = rw (← c.ticket.view_is, ← c.self.view_is) at c.requires.image in
+    let ticket = rw (← c.self.view_is) at c.requires.ticket in
+    let image = rw (← c.self.view_is) at c.requires.image in
     let base = c.base.ensures.base ∙ ap (λ (l : LinkedImage). l.base) c.get-2.ensures in
-    let new = as_new_told _ _ _ (facts_apart _ _ _ _ c.self.invariant.0.told) ∙ sym c.if-has_as_new.ensures in
+    let new = rw (c.path.ensures, c.version-version.ensures) at (as_new_told _ _ _ (facts_apart _ _ _ _ c.self.invariant.0.told) ∙ sym c.if-has_as_new.ensures) in
     let is = subst (λ (l : LinkedImage). answer l.footprint l.path l.base ≡ Ok l.bytes) c.get.ensures c.is_answer.ensures in
     let may = image_may_end _ _ c.args.image image.0 ticket image.1 is in
     let gone = ap (leaving c.self.inside.cache) (sym image.1.path) ∙ sym c.in_default.ensures.leaving in
-    let due = storing_is c.self.inside.cache.capacity c.self.inside.cache.items c.ticket.inside.seat c.ticket.inside.number c.ticket.inside.path c.ticket.inside.version c.in_default.ensures.some new
-    ∙ ap (λ o. Some (step_for c.ticket.inside.seat c.ticket.inside.number c.ticket.inside.path c.ticket.inside.version o)) gone in
+    let due = storing_is c.self.inside.cache.capacity c.self.inside.cache.items c.args.ticket.now.seat c.args.ticket.now.number c.args.ticket.now.path c.args.ticket.now.version c.in_default.ensures.some new
+    ∙ ap (λ o. Some (step_for c.args.ticket.now.seat c.args.ticket.now.number c.args.ticket.now.path c.args.ticket.now.version o)) gone in
     rw (
       c.push_stored-2.ensures.steps,
       c.push_stored-2.ensures.capacity,
@@ -132,27 +140,34 @@ invariant_of-self-2 c =
       c.push_answered.ensures.capacity,
       c.in_default.ensures.capacity,
       c.in_default.ensures.items,
+      c.path-2.ensures,
+      c.seat-seat.ensures,
+      c.number-number.ensures,
+      c.version-version.ensures,
       base,
     )
     (after_stored _ _ _ _ _ _ c.args.image image.0 c.self.invariant.0 ticket image.1 may due, c.self.invariant.1, c.self.invariant.2)
 
 pub returns : goal.returns
 returns c =
-    let ticket = rw (← c.ticket.view_is, ← c.self.view_is) at c.requires.ticket in
-    let image = rw (← c.ticket.view_is, ← c.self.view_is) at c.requires.image in
+    let ticket = rw (← c.self.view_is) at c.requires.ticket in
+    let image = rw (← c.self.view_is) at c.requires.image in
     let base = c.base.ensures.base ∙ ap (λ (l : LinkedImage). l.base) c.get-2.ensures in
-    let new = as_new_told _ _ _ (facts_apart _ _ _ _ c.self.invariant.0.told) ∙ sym c.if-has_as_new.ensures in
+    let new = rw (c.path.ensures, c.version-version.ensures) at (as_new_told _ _ _ (facts_apart _ _ _ _ c.self.invariant.0.told) ∙ sym c.if-has_as_new.ensures) in
     let gone = ap (leaving c.self.inside.cache) (sym image.1.path) ∙ sym c.in_default.ensures.leaving in
-    let due = storing_is c.self.inside.cache.capacity c.self.inside.cache.items c.ticket.inside.seat c.ticket.inside.number c.ticket.inside.path c.ticket.inside.version c.in_default.ensures.some new
-    ∙ ap (λ o. Some (step_for c.ticket.inside.seat c.ticket.inside.number c.ticket.inside.path c.ticket.inside.version o)) gone in
+    let due = storing_is c.self.inside.cache.capacity c.self.inside.cache.items c.args.ticket.now.seat c.args.ticket.now.number c.args.ticket.now.path c.args.ticket.now.version c.in_default.ensures.some new
+    ∙ ap (λ o. Some (step_for c.args.ticket.now.seat c.args.ticket.now.number c.args.ticket.now.path c.args.ticket.now.version o)) gone in
     rw (
       ← c.self.view_is,
-      ← c.ticket.view_is,
       c.push_stored-2.ensures.steps,
       c.push_stored-2.ensures.capacity,
       c.push_answered.ensures.steps,
       c.push_answered.ensures.capacity,
       c.in_default.ensures.capacity,
+      c.path-2.ensures,
+      c.seat-seat.ensures,
+      c.number-number.ensures,
+      c.version-version.ensures,
       base,
       stored_ending _ _ _ _ _ _ c.args.image.base c.self.invariant.0 ticket due,
       append_assoc,
