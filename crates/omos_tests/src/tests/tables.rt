@@ -4,6 +4,7 @@ use super::fragments::exports;
 use module_table::Table;
 use omos_base::{Row, Shared};
 use omos_model::{Entry, Fragment};
+use seeded_hash::Seed;
 use std::test::Fail;
 
 #[test]
@@ -14,7 +15,7 @@ fn names_in_the_order_of_bytes(rt: HostRuntime) -> Result<(), Fail> {
         return Ok(assert!(rt; false));
     };
     let object = Shared::of(alloc, Entry::Object(fragment))?;
-    let names = Table::leaf(alloc, 0, object)?.names()?;
+    let names = Table::leaf(alloc, Seed::known(0), 0, object)?.names()?;
     match names.as_slice() {
         [first, second] => {
             assert_eq!(rt; first.as_bytes(), b"free".as_slice());
