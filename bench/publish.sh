@@ -1,8 +1,8 @@
 #!/usr/bin/env bash
 # Counts, by callgrind, the instructions and the allocations of one more publish on a version of so
-# many paths, and the instructions of a look-up there. The paths come in mixed order; the entries of
-# the last version are compared with what is wanted. Beside it stands a publish on a plain list, which
-# is copied, and the memory that 65,536 versions of 65,536 publishes hold when all are kept.
+# many paths, and of one on a plain list, which is copied; and the instructions of a look-up, where
+# the entries of the last version are compared with what is wanted. Paths come in mixed order. Then
+# it shows the memory that 65,536 versions of 65,536 publishes hold when all are kept.
 #
 #   usage: bench/publish.sh LINK_CASES VERSION_BENCH
 set -eu
@@ -38,18 +38,6 @@ print(total)
 END
 }
 
-for count in 4096 65536; do
-    paths "$count" > cases.txt
-    fewer=$(inside name_tree::snap::Snap::with)
-    fewer_made=$(allocations)
-    fewer_got=$(inside name_tree::snap::Snap::get)
-    paths "$((count + MORE))" > cases.txt
-    all=$(inside name_tree::snap::Snap::with)
-    all_made=$(allocations)
-    all_got=$(inside name_tree::snap::Snap::get)
-    echo "$count paths: one more publish takes $(((all - fewer) / MORE)) instructions and $(python3 -c "print(round(($all_made - $fewer_made) / $MORE, 1))") allocations, a look-up $(((all_got - fewer_got) / MORE)) instructions"
-done
-
 publish() { # KIND FUNCTION COUNT: the instructions of one more publish on a version of so many paths
     local fewer all
     fewer=$(collected "--toggle-collect=version_bench::$2::publish" "$versions" "$1" "$3")
@@ -58,8 +46,22 @@ publish() { # KIND FUNCTION COUNT: the instructions of one more publish on a ver
     echo "$(((all - fewer) / MORE))"
 }
 
+for count in 64 512 4096 65472; do
+    made=$(publish tree trees "$count")
+    all=$(allocations)
+    collected --toggle-collect=version_bench::trees::publish "$versions" tree "$count" > fewer
+    fewer=$(allocations)
+    echo "$count paths: one more publish, its path made too, takes $made instructions and $(((all - fewer) / MORE)) allocations"
+done
 for count in 64 512 4096; do
-    echo "$count paths, its path made too: $(publish tree trees "$count") instructions as a tree, $(publish list listed "$count") as a list"
+    echo "$count paths in a plain list: one more publish takes $(publish list listed "$count") instructions"
+done
+for count in 4096 65536; do
+    paths "$count" > cases.txt
+    fewer=$(inside name_tree::snap::Snap::get)
+    paths "$((count + MORE))" > cases.txt
+    all=$(inside name_tree::snap::Snap::get)
+    echo "$count paths: a look-up takes $(((all - fewer) / MORE)) instructions"
 done
 python3 - "$versions" << 'END'
 import resource, subprocess, sys
