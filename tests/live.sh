@@ -286,7 +286,7 @@ as -o chosen.o - <<'END'
 copy: ret
 END
 told chosen.o 'Symbol 1 is `copy`, an indirect function (ifunc).'
-gcc -c -flto -fno-fat-lto-objects -o slim.o app.c
+gcc -c -w -flto -fno-fat-lto-objects -o slim.o app.c
 told slim.o "It holds gcc's intermediate code: compile without -flto."
 as -o far.o - <<'END'
   .globl _start
