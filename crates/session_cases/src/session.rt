@@ -1,6 +1,7 @@
 //! A session of the table.
 
-use crate::outcome::{outcome_of, workload_of};
+use crate::outcome::{Way, outcome_of, workload_of};
+use crate::parts::fault_of_parts;
 use crate::reply::fault_of;
 use crate::request::stream_of;
 use anyhow::{Context, Result};
@@ -9,6 +10,9 @@ use std::alloc::Global;
 
 /// How long a session may be that is read in small pieces too.
 const SHORT: usize = 20_000;
+
+/// How long one may be that is also cut at each byte, and whose calls fail one after the other.
+const BRIEF: usize = 2_000;
 
 /// A request, how often it stands in the stream, and the reply that is wanted each time, or none.
 #[derive(Clone, Copy)]
@@ -52,8 +56,8 @@ fn line_of(line: &str) -> Result<Line<'_>> {
     }
 }
 
-/// The frame at the front of the replies, and what follows it.
-fn cut(replies: &[u8]) -> Option<(&[u8], &[u8])> {
+/// The frame at the front of a stream or of replies, and what follows it.
+pub(crate) fn cut(replies: &[u8]) -> Option<(&[u8], &[u8])> {
     if replies.len() < 4 {
         return None;
     }
@@ -117,14 +121,26 @@ impl<'a> Session<'a> {
         Ok(Some(format!(in alloc; "{} bytes more", rest.len())?))
     }
 
-    /// What is wrong with a run in which reads give so many bytes at most, if anything.
-    fn fault_by(&self, rt: &HostRuntime, stream: &[u8], step: u32) -> Result<Option<String>> {
+    /// What is wrong with a run over the whole stream, if anything.
+    fn fault_by(&self, rt: &HostRuntime, stream: &[u8], way: Way) -> Result<Option<String>> {
         let alloc = rt.alloc();
-        let outcome = outcome_of(alloc, self.words, stream, step, self.fault)?;
+        let outcome = outcome_of(alloc, self.words, stream, way)?;
         if outcome.status != self.status {
             return Ok(Some(format!(in alloc; "status {}", outcome.status)?));
         }
         self.fault_in(rt, outcome.sink.bytes())
+    }
+
+    /// What is wrong with runs in small pieces, if anything.
+    fn fault_in_pieces(&self, rt: &HostRuntime, stream: &[u8]) -> Result<Option<String>> {
+        let mut way = Way::with(self.fault)?;
+        for step in [1, 7, 4_096] {
+            way.read_step = step;
+            if let Some(text) = self.fault_by(rt, stream, way)? {
+                return Ok(Some(text));
+            }
+        }
+        Ok(None)
     }
 
     /// What is wrong with a workload, if anything: its output is the lines that are wanted.
@@ -148,16 +164,18 @@ impl<'a> Session<'a> {
             return self.workload_fault(rt.alloc());
         }
         let stream = self.stream(rt)?;
-        if let Some(text) = self.fault_by(rt, stream.as_slice(), u32::MAX)? {
+        let stream = stream.as_slice();
+        if let Some(text) = self.fault_by(rt, stream, Way::with(self.fault)?)? {
             return Ok(Some(text));
         }
         if stream.len() > SHORT {
             return Ok(None);
         }
-        for step in [1, 7, 4_096] {
-            if let Some(text) = self.fault_by(rt, stream.as_slice(), step)? {
-                return Ok(Some(text));
-            }
+        if let Some(text) = self.fault_in_pieces(rt, stream)? {
+            return Ok(Some(text));
+        }
+        if self.status == 0 && self.fault.is_empty() && stream.len() <= BRIEF {
+            return fault_of_parts(rt.alloc(), self.words, stream);
         }
         Ok(None)
     }
