@@ -57,13 +57,9 @@ try:
 	@echo "Nothing was proved: make build proves, and builds the programs to use."
 
 build:
-	@command -v rt > /dev/null || { \
-	    echo "make: rt is missing: install the Rattle kit, and put its bin/ on the PATH" >&2; exit 1; }
 	@echo "Proving and building omosd and omos. The first time this takes some twenty minutes,"
 	@echo "later seconds. (make try builds them in a minute or two, and proves nothing.)"
-	@cd crates/omosd && rt run -- --version > out.log 2>&1 || { tail -n 20 out.log; exit 1; }
-	@cd crates/omos && rt run -- --help > out.log 2>&1 || { tail -n 20 out.log; exit 1; }
-	@rm -f crates/omosd/out.log crates/omos/out.log
+	@tools/build.py omosd=--version omos=--help
 	@echo "The proved programs are $(OMOSD) and $(OMOS)."
 
 demo: build examples

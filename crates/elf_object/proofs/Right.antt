@@ -3,11 +3,12 @@ use Rattle.std.proofs.Common.{◌≡◌, ℕ, ◌+◌, ◌<◌, ◌≤◌, ◌==
 use Rattle.std.proofs.Common.{List, None, length, arith}
 use Rattle.std.proofs.lemmas.Bool.{and_parts, or_parts, not-false, ltb-true, leb-true}
 use Rattle.std.proofs.lemmas.Bool.{not_from_false, not_from_true}
+use Rattle.omos_model.specs.ElfValues.{sht_rela}
 use Rattle.omos_model.specs.Names.{is_symbol_name}
 use Rattle.omos_model.specs.ElfFields.{e_shnum, is_section, name_of, sh_info, sh_offset, sh_size, sh_type}
 use Rattle.omos_model.specs.ElfFields.{symbol_count}
 use Rattle.omos_model.specs.ElfFaults.{has_name, is_kept, is_nobits, is_used_rela, lies_in_file}
-use Rattle.omos_model.specs.ElfFaults.{is_right_rela, is_wrong_rela, is_wrong_symbol, object_fault, rela}
+use Rattle.omos_model.specs.ElfFaults.{is_right_rela, is_wrong_rela, is_wrong_symbol, object_fault}
 use Rattle.elf_object.specs.Stages.{IsReadable}
 use Rattle.omos_model.proofs.Joined.{rest_false, rest_true}
 use Rattle.omos_model.proofs.Pieces.{section_number}
@@ -37,8 +38,8 @@ kept_inside file i right kept bits =
 pub readable : (file : List ℕ) (i : ℕ) → i < e_shnum file → is_wrong_rela file i ≡ false
     → is_used_rela file i ≡ true → IsReadable file i
 readable file i there right used =
-    let parts = and_parts (sh_type file i == rela) _ used in
-    let fine = rest_false (sh_type file i == rela) _ right parts.0 in
+    let parts = and_parts (sh_type file i == sht_rela) _ used in
+    let fine = rest_false (sh_type file i == sht_rela) _ right parts.0 in
     let all = not-false _ (rest_false (is_used_rela file i) (not (is_right_rela file i))
     (or_parts _ _ fine).1 used) in
     let a = and_parts _ _ (and_parts _ _ (and_parts _ _ all).0).0 in

@@ -6,12 +6,13 @@ use Rattle.std.specs.List.{sum_by}
 use Rattle.std.proofs.lemmas.Bool.{and_left, and_parts, and_right, eq-eqb, leb-true, lt-ltb}
 use Rattle.std.proofs.lemmas.List.{append-nil}
 use Rattle.std.proofs.lemmas.List.Sums.{sum_by_push}
+use Rattle.omos_model.specs.ElfValues.{sht_rela}
 use Rattle.omos_model.specs.Numbers.{numbers_from}
 use Rattle.omos_model.specs.ElfFields.{e_shnum, header_at, sh_info, sh_type}
 use Rattle.elf_words.specs.Shdr.{shdr_at}
 use Rattle.elf_words.specs.declared.shdr.Shdr.{Shdr}
 use Rattle.omos_model.specs.ElfFaults.{entries_up_to, entry_count, is_kept, is_right_rela}
-use Rattle.omos_model.specs.ElfFaults.{is_used_rela, is_wrong_rela, rela}
+use Rattle.omos_model.specs.ElfFaults.{is_used_rela, is_wrong_rela}
 use Rattle.omos_model.specs.FragmentParts.{max_entries}
 use Rattle.elf_object.proofs.DefinedBelow.{one_more}
 use Rattle.elf_object.proofs.Right.{kept_there}
@@ -61,7 +62,7 @@ pub record IsPassed (file : List ℕ) (i : ℕ) : Type 0 where
   pub right : is_wrong_rela file i ≡ false
   pub unused : is_used_rela file i ≡ false
 
-pub other_kind : (file : List ℕ) (i : ℕ) → (sh_type file i == rela) ≡ false → IsPassed file i
+pub other_kind : (file : List ℕ) (i : ℕ) → (sh_type file i == sht_rela) ≡ false → IsPassed file i
 other_kind file i t = record { right = and_left _ _ t; unused = and_left _ _ t }
 
 shape_dropped : (t l k r : Bool) → t ≡ true → l ≡ true → k ≡ false
@@ -75,7 +76,7 @@ shape_right t l k r a b c d = rw (a, b, c, d) refl
 both : (t k : Bool) → t ≡ true → k ≡ true → (t && k) ≡ true
 both t k a b = rw (a, b) refl
 
-pub dropped : (file : List ℕ) (i : ℕ) → (sh_type file i == rela) ≡ true
+pub dropped : (file : List ℕ) (i : ℕ) → (sh_type file i == sht_rela) ≡ true
     → sh_info file i < e_shnum file → is_kept file (sh_info file i) ≡ false → IsPassed file i
 dropped file i t low k =
     record {
@@ -83,7 +84,7 @@ dropped file i t low k =
       unused = and_right _ _ k;
     }
 
-pub used : (file : List ℕ) (i : ℕ) → (sh_type file i == rela) ≡ true
+pub used : (file : List ℕ) (i : ℕ) → (sh_type file i == sht_rela) ≡ true
     → is_kept file (sh_info file i) ≡ true → is_used_rela file i ≡ true
 used file i t k = both _ _ t k
 
@@ -91,7 +92,7 @@ pub record IsFine (file : List ℕ) (i : ℕ) : Type 0 where
   pub right : is_wrong_rela file i ≡ false
   pub few : entries_up_to file i ≤ 65535
 
-pub fine : (file : List ℕ) (i : ℕ) → (sh_type file i == rela) ≡ true
+pub fine : (file : List ℕ) (i : ℕ) → (sh_type file i == sht_rela) ≡ true
     → is_kept file (sh_info file i) ≡ true → is_right_rela file i ≡ true → IsFine file i
 fine file i t k r =
     let low = kept_there file (sh_info file i) k in
@@ -103,8 +104,8 @@ fine file i t k r =
 -- ---- the same of a header that was read
 
 pub is_rela : (file : List ℕ) (i : ℕ) (h : Shdr) → h ≡ shdr_at file (header_at file i)
-    → h.sh_type ≡ rela → (sh_type file i == rela) ≡ true
-is_rela file i h e is = eq-eqb (sh_type file i) rela (sym (ap (λ (s : Shdr). s.sh_type) e) ∙ is)
+    → h.sh_type ≡ sht_rela → (sh_type file i == sht_rela) ≡ true
+is_rela file i h e is = eq-eqb (sh_type file i) sht_rela (sym (ap (λ (s : Shdr). s.sh_type) e) ∙ is)
 
 pub target : (file : List ℕ) (i : ℕ) (h : Shdr) (b found : Bool)
     → h ≡ shdr_at file (header_at file i) → b ≡ is_kept file h.sh_info → b ≡ found

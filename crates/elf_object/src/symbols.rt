@@ -3,11 +3,12 @@
 ghost use Rattle.std.specs.Prelude.{◌≡◌, ◌+◌, ◌*◌, ◌/◌, ◌%◌, ◌<◌, ◌≤◌, ◌==◌, ◌&&◌, ◌||◌, not, drop};
 ghost use Rattle.std.specs.Prelude.{nat_le};
 ghost use Rattle.std.specs.List.{find, list_any, take_while};
+ghost use Rattle.omos_model.specs.ElfValues.{shn_abs, shn_common, shn_undef, stb_global, stb_local};
 ghost use Rattle.omos_model.specs.Names.{is_symbol_name};
 ghost use Rattle.omos_model.specs.FragmentParts.{is_alignment, max_size};
 ghost use Rattle.omos_model.specs.ElfFields.{is_section, name_of, sh_size};
 ghost use Rattle.omos_model.specs.ElfFields.{st_info, symbol_at, symbols};
-ghost use Rattle.omos_model.specs.ElfFaults.{abs, common, is_export, is_kept, is_wrong_symbol, undef};
+ghost use Rattle.omos_model.specs.ElfFaults.{is_export, is_kept, is_wrong_symbol};
 ghost use Rattle.elf_words.specs.Sym.{sym_at};
 ghost use Rattle.elf_object.specs.Stages.{HasHeaders};
 ghost use Rattle.elf_object.specs.TablesOf.{AreKept, AreSymbols};
@@ -55,8 +56,8 @@ fn has_right_info(st_info: u8) -> bool
 /// is tried first.
 fn has_right_section(file: &[u8], binding: u8, index: u16) -> bool
     requires { HasHeaders file.now }
-    ensures { result ≡ ((not (binding == 0) && (index == undef)) || (index == abs)
-        || ((binding == 1) && (index == common)) || is_section file.now index) }
+    ensures { result ≡ ((not (binding == stb_local) && (index == shn_undef)) || (index == shn_abs)
+        || ((binding == stb_global) && (index == shn_common)) || is_section file.now index) }
 {
     is_section(file, index as usize)
         || (binding != STB_LOCAL && index == SHN_UNDEF)
@@ -80,7 +81,7 @@ fn has_right_value(file: &[u8], kept: &[bool], is_named: bool, index: u16, value
 
 /// A common symbol's value is its alignment.
 fn has_right_common(index: u16, value: u64, size: u64) -> bool
-    ensures { result ≡ (not (index == common)
+    ensures { result ≡ (not (index == shn_common)
         || ((value == 0 || is_alignment value) && nat_le size max_size)) }
 {
     index != SHN_COMMON || ((value == 0 || is_alignment(value)) && size <= MAX_SIZE)

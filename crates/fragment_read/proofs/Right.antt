@@ -7,13 +7,14 @@ use Rattle.std.specs.List.{flat_map, list_all, list_any}
 use Rattle.std.proofs.lemmas.Bool.{and_parts, or_parts, not-false, not-true, not_from_true}
 use Rattle.std.proofs.lemmas.Bool.{not_from_false, and_from, lt-ltb, true≢false, leb-true, ltb-false, eqb-true, eqb-false, ltb-true}
 use Rattle.std.proofs.lemmas.List.Folds.{list_all-append}
+use Rattle.omos_model.specs.ElfValues.{shn_common}
 use Rattle.omos_model.specs.FragmentParts.{is_alignment, width}
 use Rattle.omos_model.specs.declared.fragment.Kind.{Kind}
 use Rattle.omos_model.specs.ElfFields.{e_shnum, is_section, sh_addralign, sh_size, st_shndx, st_size}
 use Rattle.omos_model.specs.ElfFields.{r_offset, r_sym, r_type, sh_info, sh_type}
 use Rattle.omos_model.specs.ElfFields.{binding, st_value, symbol_count}
 use Rattle.omos_model.specs.Numbers.{numbers_from}
-use Rattle.omos_model.specs.ElfFaults.{common, entry_count, has_name, has_right_section, is_export, is_kept}
+use Rattle.omos_model.specs.ElfFaults.{entry_count, has_name, has_right_section, is_export, is_kept}
 use Rattle.omos_model.specs.ElfFaults.{is_aim_of, is_in_target, is_local, is_of_dropped, is_used_rela, is_wrong_entry, kind_of, object_fault}
 use Rattle.omos_model.specs.FragmentOf.{is_common}
 use Rattle.omos_model.proofs.Joined.{fourth, rest_false, rest_true}
@@ -78,7 +79,7 @@ pub common_right : (file : List ℕ) (k : ℕ) → object_fault file ≡ None �
     → k < symbol_count file → is_common file k ≡ true → CommonSymbol file k
 common_right file k right low high is =
     let symbol = right_symbol file (right_file file right) k (number file k low high) in
-    let parts = and_parts _ _ (rest_true (not (st_shndx file k == common)) _ symbol.common (not_from_true _ is)) in
+    let parts = and_parts _ _ (rest_true (not (st_shndx file k == shn_common)) _ symbol.common (not_from_true _ is)) in
     record {
       aligned = parts.0;
       small = leb-true (st_size file k) 8388608 parts.1;

@@ -2,9 +2,10 @@
 use Rattle.std.specs.Prelude.{◌≡◌, ℕ, ℤ, ◌<◌, ◌≤◌, ◌==◌, ◌||◌, Bool, List, length, slice_index, Option}
 use Rattle.std.specs.Prelude.{Some, None, if◌then◌else◌}
 use Rattle.std.specs.List.{slice_get}
+use Rattle.omos_model.specs.ElfValues.{shn_abs}
 use Rattle.omos_model.specs.Names.{Name}
 use Rattle.omos_model.specs.ElfFields.{e_shnum, name_of, st_shndx, symbol_count}
-use Rattle.omos_model.specs.ElfFaults.{abs, has_name, is_kept}
+use Rattle.omos_model.specs.ElfFaults.{has_name, is_kept}
 use Rattle.omos_model.specs.FragmentOf.{is_common, section_piece, spot_of}
 use Rattle.omos_model.specs.declared.fragment.Aim.{Aim}
 use Rattle.omos_model.specs.declared.fragment.Export.{Export}
@@ -18,7 +19,7 @@ pub record ArePieceNumbers (file : List ℕ) (numbers : List ℕ) : Type 0 where
 
 -- the symbol is a number, a common one or in a kept section
 abbrev pub is_placed : List ℕ → ℕ → Bool
-is_placed file k = (st_shndx file k == abs) || is_common file k || is_kept file (st_shndx file k)
+is_placed file k = (st_shndx file k == shn_abs) || is_common file k || is_kept file (st_shndx file k)
 
 abbrev pub export_of : List ℕ → ℕ → Export
 export_of file k = record { name = name_of file k; spot = spot_of file k }

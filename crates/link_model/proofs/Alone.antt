@@ -18,7 +18,7 @@ use Rattle.omos_model.specs.declared.entry.Start.{Start}
 use Rattle.omos_model.specs.declared.entry.Start.TheVariants.{Named}
 use Rattle.omos_model.specs.declared.refusal.Refusal.TheVariants.{TooLarge}
 use Rattle.omos_model.specs.declared.refusal.Site.{Site}
-use Rattle.omos_model.specs.declared.visit.Visit.{Visit}
+use Rattle.omos_model.specs.Visit.{Visit}
 use Rattle.omos_model.proofs.Names.{same_name-refl}
 use Rattle.omos_model.proofs.Walk.{after_leaf, has_room}
 use Rattle.module_table.specs.Stands.{StandsForLeaf}

@@ -13,7 +13,7 @@ use Rattle.omos_model.specs.Term.{Term}
 use Rattle.omos_model.specs.Expansion.{Visited, expansion, first_visit, source, source_of}
 use Rattle.omos_model.specs.Footprint.{footprint, footprint_of}
 use Rattle.omos_model.specs.declared.entry.Stamped.{Stamped}
-use Rattle.omos_model.specs.declared.visit.Visit.{Visit}
+use Rattle.omos_model.specs.Visit.{Visit}
 use Rattle.omos_model.proofs.Names.{same_name-true, same_name-swap, same_name-refl}
 use Rattle.omos_model.proofs.PathsRead.{footprint_law, found_path}
 use Rattle.link_model.specs.Answer.{answer_of_plan}

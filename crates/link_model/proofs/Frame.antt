@@ -14,7 +14,7 @@ use Rattle.omos_model.specs.Expansion.{leaf, both, one, visit, here, add_read, b
 use Rattle.omos_model.specs.Expansion.{entered, unless_cycle, opened, too_deep, expand}
 use Rattle.omos_model.specs.declared.refusal.Refusal.TheVariants.{Cycle, TooLarge}
 use Rattle.omos_model.specs.declared.refusal.Site.{Site}
-use Rattle.omos_model.specs.declared.visit.Visit.{Visit}
+use Rattle.omos_model.specs.Visit.{Visit}
 use Rattle.omos_model.proofs.Names.{same_name-refl}
 use Rattle.omos_model.proofs.Walk.{has_room, after_leaf}
 

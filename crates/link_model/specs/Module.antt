@@ -17,7 +17,7 @@ use Rattle.omos_model.specs.declared.entry.Start.{Start}
 use Rattle.omos_model.specs.declared.mark.Landing.{Landing}
 use Rattle.omos_model.specs.declared.mark.Target.{Target}
 use Rattle.omos_model.specs.declared.refusal.Refusal.{Refusal}
-use Rattle.omos_model.specs.declared.visit.Visit.{Visit}
+use Rattle.omos_model.specs.Visit.{Visit}
 use Rattle.module_table.specs.Stands.{StandsFor}
 use Rattle.module_table.specs.TableParts.{TableParts}
 use Rattle.link_model.specs.declared.evaluated.Found.{Found}

@@ -1,5 +1,5 @@
 -- A whole program: the objects of an evaluated module, with what each reference lands on.
-use Rattle.std.specs.Prelude.{ℕ, List, [], ◌∷◌, map}
+use Rattle.std.specs.Prelude.{ℕ, List, [], ◌∷◌, map, codes}
 use Rattle.std.specs.List.{zip, enumerate_from, flat_map}
 use Rattle.omos_model.specs.Names.{Name}
 use Rattle.omos_model.specs.FragmentParts.{FragmentParts}
@@ -64,7 +64,7 @@ pub record Terms : Type 0 where
 
 -- those of an object's path, and of a blueprint without its own
 abbrev pub start_name : Name
-start_name = 95 ∷ 115 ∷ 116 ∷ 97 ∷ 114 ∷ 116 ∷ []
+start_name = codes "_start"
 
 abbrev pub terms_of : Entry → Terms
 terms_of (Object f) = record { start = Named start_name; lo = 0x400000; hi = 0x40000000 }

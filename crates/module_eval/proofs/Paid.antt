@@ -8,7 +8,7 @@ use Rattle.omos_model.specs.Names.{Name}
 use Rattle.omos_model.specs.Namespace.{Space}
 use Rattle.omos_model.specs.Term.{Term}
 use Rattle.omos_model.specs.declared.refusal.Refusal.{Refusal}
-use Rattle.omos_model.specs.declared.visit.Visit.{Visit}
+use Rattle.omos_model.specs.Visit.{Visit}
 use Rattle.module_share.specs.Trails.{Trail, front, trail, visited}
 use Rattle.module_share.proofs.Fronts.{front_law}
 use Rattle.module_eval.specs.Costs.{IsPaid, operators_of, read_of}

@@ -17,7 +17,7 @@ use Rattle.omos_model.specs.declared.entry.Entry.{Entry}
 use Rattle.omos_model.specs.declared.entry.Stamped.{Stamped}
 use Rattle.omos_model.specs.declared.refusal.Refusal.{Refusal}
 use Rattle.omos_model.specs.declared.refusal.Refusal.TheVariants.{NoEntry, Cycle, TooDeep}
-use Rattle.omos_model.specs.declared.visit.Visit.{Visit}
+use Rattle.omos_model.specs.Visit.{Visit}
 use Rattle.omos_model.specs.declared.refusal.Site.{Site}
 use Rattle.module_table.specs.Faults.{Tells}
 use Rattle.module_eval.specs.Counted.{StepsToNode, visit_of}

@@ -13,7 +13,7 @@ use Rattle.omos_model.specs.Namespace.{Space}
 use Rattle.omos_model.specs.Term.{Term}
 use Rattle.omos_model.specs.Tree.{Tree}
 use Rattle.omos_model.specs.declared.entry.Stamped.{Stamped}
-use Rattle.omos_model.specs.declared.visit.Visit.{Visit}
+use Rattle.omos_model.specs.Visit.{Visit}
 use Rattle.omos_model.proofs.Names.{same_name-true}
 use Rattle.module_share.specs.Places.{AllNamed, HasRoomFor, IsClosed, IsMoved, tree_at}
 use Rattle.module_share.specs.Trails.{Trail, and_on, front, nested_on}

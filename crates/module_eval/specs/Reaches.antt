@@ -7,7 +7,7 @@ use Rattle.omos_model.specs.NameLists.{is_among}
 use Rattle.omos_model.specs.Namespace.{Space}
 use Rattle.omos_model.specs.Term.{Term}
 use Rattle.omos_model.specs.Tree.{Tree}
-use Rattle.omos_model.specs.declared.visit.Visit.{Visit}
+use Rattle.omos_model.specs.Visit.{Visit}
 use Rattle.module_share.specs.Places.{tree_at}
 use Rattle.module_eval.specs.declared.reach.Reach.{Reach}
 use Rattle.module_eval.specs.declared.reach.Tally.{Tally}

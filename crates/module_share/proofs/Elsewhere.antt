@@ -10,7 +10,7 @@ use Rattle.omos_model.specs.Term.{Term, Leaf, Merge, Override, Apply}
 use Rattle.omos_model.specs.Tree.{Tree}
 use Rattle.omos_model.specs.Tree as tree
 use Rattle.omos_model.specs.Expansion.{Source, Visited, add_read}
-use Rattle.omos_model.specs.declared.visit.Visit.{Visit}
+use Rattle.omos_model.specs.Visit.{Visit}
 use Rattle.module_share.specs.Shifted.{raised, shifted}
 use Rattle.module_share.specs.Places.{AllNamed, AnywhereLaw, HasRoomFor, IsMoved, SameTermLaw, tree_at}
 use Rattle.module_share.proofs.Growth.{Grows, has_room, after_begin, after_leaf}

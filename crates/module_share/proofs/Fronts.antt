@@ -14,7 +14,7 @@ use Rattle.omos_model.specs.Expansion.{entered, unless_cycle, too_deep, opened, 
 use Rattle.omos_model.specs.declared.refusal.Refusal.{Refusal}
 use Rattle.omos_model.specs.declared.refusal.Refusal.TheVariants.{Cycle, TooDeep}
 use Rattle.omos_model.specs.declared.refusal.Site.{Site}
-use Rattle.omos_model.specs.declared.visit.Visit.{Visit}
+use Rattle.omos_model.specs.Visit.{Visit}
 use Rattle.module_share.specs.Trails.{Trail, Trailer, front, step, and_on, begin_on, leaf_on, both_on}
 use Rattle.module_share.specs.Trails.{one_on, visit_on, begin_path_on, nested_on, entered_on, FrontLaw}
 use Rattle.module_share.specs.Trails.{unless_cycle_on, too_deep_on, opened_on, expand_on}

@@ -15,7 +15,7 @@ use Rattle.omos_model.specs.Expansion.{Source, Object, Blueprint, Visited, Visit
 use Rattle.omos_model.specs.Expansion.{both, one, visit, here, add_read, expand}
 use Rattle.omos_model.specs.declared.refusal.Refusal.TheVariants.{NoEntry, Cycle, TooDeep}
 use Rattle.omos_model.specs.declared.refusal.Site.{Site}
-use Rattle.omos_model.specs.declared.visit.Visit.{Visit}
+use Rattle.omos_model.specs.Visit.{Visit}
 use Rattle.omos_model.proofs.Names.{same_name-refl}
 use Rattle.omos_model.proofs.Walk.{Holds, Lasts, expand_holds, expand_holds_then}
 use Rattle.module_share.specs.Places.{AllNamed}

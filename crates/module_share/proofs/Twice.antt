@@ -17,7 +17,7 @@ use Rattle.omos_model.specs.Expansion.{entered, unless_cycle, too_deep, opened, 
 use Rattle.omos_model.specs.declared.refusal.Refusal.{Refusal}
 use Rattle.omos_model.specs.declared.refusal.Refusal.TheVariants.{Cycle, TooDeep}
 use Rattle.omos_model.specs.declared.refusal.Site.{Site}
-use Rattle.omos_model.specs.declared.visit.Visit.{Visit}
+use Rattle.omos_model.specs.Visit.{Visit}
 use Rattle.module_share.specs.Places.{AllNamed, IsClosed}
 use Rattle.module_share.proofs.Growth.{Grows, Grown, grows_refl, and_grown, begin_grown, leaf_grown}
 use Rattle.module_share.proofs.Growth.{both_grown, one_grown, visit_grown, nested_grown, expand_grown}

@@ -8,7 +8,7 @@ use Rattle.omos_model.specs.Term.{Term}
 use Rattle.omos_model.specs.Tree.{Tree}
 use Rattle.omos_model.specs.Tree as tree
 use Rattle.omos_model.specs.Expansion.{Source, Blueprint, Visited, Visitor, visit, expand}
-use Rattle.omos_model.specs.declared.visit.Visit.{Visit}
+use Rattle.omos_model.specs.Visit.{Visit}
 use Rattle.module_share.specs.Shifted.{raised, shifted}
 
 -- an expression of the blueprint `at`, inside the blueprints `above`, where `room` more may be

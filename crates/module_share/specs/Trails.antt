@@ -15,7 +15,7 @@ use Rattle.omos_model.specs.Expansion.{max_blueprints, source}
 use Rattle.omos_model.specs.declared.refusal.Site.{Site}
 use Rattle.omos_model.specs.declared.refusal.Refusal.{Refusal}
 use Rattle.omos_model.specs.declared.refusal.Refusal.TheVariants.{NoEntry, Cycle, TooDeep}
-use Rattle.omos_model.specs.declared.visit.Visit.{Visit}
+use Rattle.omos_model.specs.Visit.{Visit}
 
 -- a value, or the first refusal, and the counts where it came
 abbrev pub Trail : Type 0 → Type 0

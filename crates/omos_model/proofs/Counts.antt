@@ -20,7 +20,7 @@ use Rattle.omos_model.specs.declared.fragment.Fixup.{Fixup}
 use Rattle.omos_model.specs.declared.mark.MarkRow.{MarkRow}
 use Rattle.omos_model.specs.declared.mark.Mark.{Mark}
 use Rattle.omos_model.specs.declared.refusal.Site.{Site}
-use Rattle.omos_model.specs.declared.visit.Visit.{Visit}
+use Rattle.omos_model.specs.Visit.{Visit}
 use Rattle.omos_model.proofs.Walk.{Lasts, Holds, expand_holds, after_leaf, has_room}
 
 abbrev references : List MarkRow → ℕ

@@ -10,6 +10,7 @@ use Rattle.std.proofs.lemmas.Bool.{not_from_false, leb-true, ltb-true, le-leb, l
 use Rattle.std.proofs.lemmas.Bool.{eqb-false, and_left, or_parts, not_from_true, false_from_ne_true}
 use Rattle.std.proofs.lemmas.Option.{none-some}
 use Rattle.std.proofs.lemmas.List.Folds.{list_all-map}
+use Rattle.omos_model.specs.ElfValues.{shn_abs, shn_common, shn_undef, stb_weak}
 use Rattle.omos_model.specs.Names.{Name, same_name}
 use Rattle.omos_model.specs.FragmentParts.{IsFragment, is_fragment, is_spot}
 use Rattle.omos_model.specs.FragmentParts.{is_fixup, is_field, is_aim, is_zeros, is_exported}
@@ -19,7 +20,7 @@ use Rattle.omos_model.specs.ElfFields.{e_shnum, sh_type, sh_size, sh_info, has_f
 use Rattle.omos_model.specs.ElfFields.{sections, symbols, symbol_count, st_shndx}
 use Rattle.omos_model.specs.ElfFields.{st_value, binding, name_of, r_addend, r_offset, r_sym}
 use Rattle.omos_model.specs.ElfFields.{r_type}
-use Rattle.omos_model.specs.ElfFaults.{is_kept, is_nobits, abs, common, undef, is_local, has_name}
+use Rattle.omos_model.specs.ElfFaults.{is_kept, is_nobits, is_local, has_name}
 use Rattle.omos_model.specs.ElfFaults.{is_export, is_of_dropped, is_used_rela}
 use Rattle.omos_model.specs.ElfFaults.{entry_count, entries_up_to, is_right_rela, kind_of, entries}
 use Rattle.omos_model.specs.ElfFaults.{is_in_target, is_aim_of, is_wrong_entry, object_fault}
@@ -57,9 +58,9 @@ or_not false b h e = cc
 
 -- a symbol that isn't undefined, and not of a section that isn't kept, has a spot in the pieces
 right_spot : (file : List ℕ) → RightFile file → (k : ℕ) → IsSymbolNumber file k
-    → (not (is_local file k) && (st_shndx file k == undef)) ≡ false → is_of_dropped file k ≡ false
+    → (not (is_local file k) && (st_shndx file k == shn_undef)) ≡ false → is_of_dropped file k ≡ false
     → is_spot (pieces_of file) (spot_of file k) ≡ true
-right_spot file right k within defined kept = go (st_shndx file k == abs) refl
+right_spot file right k within defined kept = go (st_shndx file k == shn_abs) refl
   where
     n : ℕ
     n = st_shndx file k
@@ -67,22 +68,22 @@ right_spot file right k within defined kept = go (st_shndx file k == abs) refl
     symbol : RightSymbol file k
     symbol = right_symbol file right k within
 
-    in_section : (n == abs) ≡ false → is_common file k ≡ false
+    in_section : (n == shn_abs) ≡ false → is_common file k ≡ false
         → is_spot (pieces_of file) (Inside (section_piece file n) (st_value file k)) ≡ true
     in_section a c =
         let there : is_section file n ≡ true =
-        fourth (not (is_local file k) && (n == undef)) (n == abs) _ (is_section file n) symbol.index defined a (and_right _ (n == common) c) in
+        fourth (not (is_local file k) && (n == shn_undef)) (n == shn_abs) _ (is_section file n) symbol.index defined a (and_right _ (n == shn_common) c) in
         let loads : is_kept file n ≡ true = and_not (is_section file n) (is_kept file n) kept there in
         let small : nat_le (st_value file k) (sh_size file n) ≡ true =
         or_not (is_kept file n) _ (and_parts (not (is_kept file n) || nat_le (st_value file k) (sh_size file n)) (not (has_name file k && is_of_dropped file k)) symbol.value).0 loads in
         rw (section_there file n loads) small
 
-    section_or_common : (b : Bool) → is_common file k ≡ b → (n == abs) ≡ false
+    section_or_common : (b : Bool) → is_common file k ≡ b → (n == shn_abs) ≡ false
         → is_spot (pieces_of file) (cond b (Inside (common_piece file k) 0) (Inside (section_piece file n) (st_value file k))) ≡ true
     section_or_common true c a = rw (common_there file k within c) (le-leb 0 _ (omega arith))
     section_or_common false c a = in_section a c
 
-    go : (b : Bool) → (n == abs) ≡ b
+    go : (b : Bool) → (n == shn_abs) ≡ b
         → is_spot (pieces_of file) (cond b (Fixed (st_value file k)) (cond (is_common file k) (Inside (common_piece file k) 0) (Inside (section_piece file n) (st_value file k)))) ≡ true
     go true a = refl
     go false a = section_or_common (is_common file k) refl a
@@ -95,10 +96,10 @@ export_of file k = record { name = name_of file k; spot = spot_of file k }
 right_export : (file : List ℕ) → RightFile file → (k : ℕ) → IsSymbolNumber file k
     → is_export file k ≡ true → is_spot (pieces_of file) (spot_of file k) ≡ true
 right_export file right k within h =
-    let parts = and_parts (has_name file k) (not (st_shndx file k == undef)) h in
+    let parts = and_parts (has_name file k) (not (st_shndx file k == shn_undef)) h in
     let value = (right_symbol file right k within).value in
     let fine = (and_parts (not (is_kept file (st_shndx file k)) || nat_le (st_value file k) (sh_size file (st_shndx file k))) (not (has_name file k && is_of_dropped file k)) value).1 in
-    right_spot file right k within (and_right _ _ (not-true (st_shndx file k == undef) parts.1)) (rest_false (has_name file k) (is_of_dropped file k) (not-true (has_name file k && is_of_dropped file k) fine) parts.0)
+    right_spot file right k within (and_right _ _ (not-true (st_shndx file k == shn_undef) parts.1)) (rest_false (has_name file k) (is_of_dropped file k) (not-true (has_name file k && is_of_dropped file k) fine) parts.0)
 
 right_exports : (file : List ℕ) → RightFile file
     → list_all (λ x. is_spot (pieces_of file) x.spot) (exports_of file) ≡ true
@@ -227,7 +228,7 @@ right_fixup file right e y h is = go (kind_of (r_type file e.0 e.1)) refl is
     aims a = at_zero (k == 0) refl
       where
         local : (b : Bool) → is_local file k ≡ b → (k == 0) ≡ false
-            → is_aim (pieces_of file) (cond b (aim.At (spot_of file k)) (aim.Name (name_of file k) ((st_shndx file k == undef) && (binding file k == 2)))) ≡ true
+            → is_aim (pieces_of file) (cond b (aim.At (spot_of file k)) (aim.Name (name_of file k) ((st_shndx file k == shn_undef) && (binding file k == stb_weak)))) ≡ true
         local false l z = refl
         local true l z =
             let known = and_parts (nat_lt k (symbol_count file)) (not (nat_lt 0 k && is_local file k && is_of_dropped file k)) a in
@@ -235,11 +236,11 @@ right_fixup file right e y h is = go (kind_of (r_type file e.0 e.1)) refl is
             let some : 0 < k = omega (arith, eqb-false k 0 z) in
             let named : (nat_lt 0 k && is_local file k) ≡ true = and_from (nat_lt 0 k) (is_local file k) (lt-ltb 0 k some) l in
             right_spot file right k (record { low = omega (arith, some); high = omega (arith, below, some) })
-            (and_left (not (is_local file k)) (st_shndx file k == undef) (not_from_true (is_local file k) l))
+            (and_left (not (is_local file k)) (st_shndx file k == shn_undef) (not_from_true (is_local file k) l))
             (rest_false (nat_lt 0 k && is_local file k) (is_of_dropped file k) (not-true _ known.1) named)
 
         at_zero : (b : Bool) → (k == 0) ≡ b
-            → is_aim (pieces_of file) (cond b (aim.At (Fixed 0)) (cond (is_local file k) (aim.At (spot_of file k)) (aim.Name (name_of file k) ((st_shndx file k == undef) && (binding file k == 2))))) ≡ true
+            → is_aim (pieces_of file) (cond b (aim.At (Fixed 0)) (cond (is_local file k) (aim.At (spot_of file k)) (aim.Name (name_of file k) ((st_shndx file k == shn_undef) && (binding file k == stb_weak))))) ≡ true
         at_zero true z = refl
         at_zero false z = local (is_local file k) refl z
 

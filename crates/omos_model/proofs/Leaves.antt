@@ -7,7 +7,7 @@ use Rattle.omos_model.specs.NameLists.{is_among}
 use Rattle.omos_model.specs.Numbers.{numbers_from}
 use Rattle.omos_model.specs.Term.{Term, leaf_numbers}
 use Rattle.omos_model.specs.Expansion.{Source, add_read, first_visit, source}
-use Rattle.omos_model.specs.declared.visit.Visit.{Visit}
+use Rattle.omos_model.specs.Visit.{Visit}
 use Rattle.omos_model.proofs.Walk.{Lasts, Holds, expand_holds}
 
 -- the leaves have the numbers from the count before to the count after

@@ -18,7 +18,7 @@ use Rattle.omos_model.specs.Expansion.{expand, first_visit}
 use Rattle.omos_model.specs.Expansion.{source, source_of}
 use Rattle.omos_model.specs.Footprint.{footprint_of}
 use Rattle.omos_model.specs.declared.entry.Stamped.{Stamped}
-use Rattle.omos_model.specs.declared.visit.Visit.{Visit}
+use Rattle.omos_model.specs.Visit.{Visit}
 use Rattle.omos_model.proofs.Names.{same_name-true, same_name-swap}
 use Rattle.omos_model.proofs.Walk.{Lasts, Holds, expand_holds_then}
 

@@ -14,7 +14,7 @@ use Rattle.omos_model.specs.Expansion.{leaf, both, one, visit, here, add_read, b
 use Rattle.omos_model.specs.Expansion.{entered, unless_cycle, expand}
 use Rattle.omos_model.specs.declared.refusal.Refusal.TheVariants.{Cycle, TooDeep, TooLarge}
 use Rattle.omos_model.specs.declared.refusal.Site.{Site}
-use Rattle.omos_model.specs.declared.visit.Visit.{Visit}
+use Rattle.omos_model.specs.Visit.{Visit}
 
 -- a fact about the counts before a part, its term and the counts after it
 abbrev pub Fact : Type 1

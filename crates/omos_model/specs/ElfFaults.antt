@@ -6,6 +6,15 @@ use Rattle.std.specs.List.{find, list_any, sum_by, flat_map}
 use Rattle.std.specs.Option.{option_map, option_map_or}
 use Rattle.std.specs.Map.{lookup}
 use Rattle.omos_base.specs.Fields.{number_at}
+use Rattle.omos_model.specs.ElfValues.{em_x86_64, et_rel, ev_current, shf_alloc}
+use Rattle.omos_model.specs.ElfValues.{r_x86_64_none, r_x86_64_64, r_x86_64_pc32, r_x86_64_plt32}
+use Rattle.omos_model.specs.ElfValues.{r_x86_64_gotpcrel, r_x86_64_32, r_x86_64_32s, r_x86_64_pc64}
+use Rattle.omos_model.specs.ElfValues.{r_x86_64_gotpcrelx, r_x86_64_rex_gotpcrelx}
+use Rattle.omos_model.specs.ElfValues.{shf_compressed, shf_execinstr, shf_tls, shf_write, shn_abs}
+use Rattle.omos_model.specs.ElfValues.{shn_common, shn_undef, sht_fini_array, sht_group}
+use Rattle.omos_model.specs.ElfValues.{sht_init_array, sht_nobits, sht_note, sht_progbits, sht_rel}
+use Rattle.omos_model.specs.ElfValues.{sht_rela, sht_strtab, sht_symtab_shndx, sht_x86_64_unwind}
+use Rattle.omos_model.specs.ElfValues.{stb_global, stb_local, stb_weak, stt_common}
 use Rattle.omos_model.specs.Names.{same_name, is_symbol_name}
 use Rattle.omos_model.specs.FragmentParts.{is_alignment, max_size, max_entries, width}
 use Rattle.omos_model.specs.Numbers.{numbers_from, first_some}
@@ -27,52 +36,28 @@ use Rattle.omos_model.specs.declared.refusal.ObjectFault.TheVariants as fault
 
 -- ---- sections (gABI, "Sections"; x86-64 psABI, "Special Sections")
 
--- types of sections
-abbrev pub strtab : ℕ
-strtab = 3
-
-abbrev pub rela : ℕ
-rela = 4
-
-abbrev pub nobits : ℕ
-nobits = 8
-
--- flags of sections
-abbrev pub write : ℕ
-write = 1
-
-abbrev pub alloc : ℕ
-alloc = 2
-
-abbrev pub execinstr : ℕ
-execinstr = 4
-
-abbrev pub tls : ℕ
-tls = 1024
-
-abbrev pub compressed : ℕ
-compressed = 2048
 
 abbrev pub is_alloc : List ℕ → ℕ → Bool
-is_alloc file i = has_flag file i alloc
+is_alloc file i = has_flag file i shf_alloc
 
--- PROGBITS, NOTE, NOBITS, INIT_ARRAY, FINI_ARRAY and X86_64_UNWIND
 abbrev pub loaded_types : List ℕ
-loaded_types = 1 ∷ 7 ∷ 8 ∷ 14 ∷ 15 ∷ 1879048193 ∷ []
+loaded_types =
+    sht_progbits ∷ sht_note ∷ sht_nobits ∷ sht_init_array ∷ sht_fini_array ∷ sht_x86_64_unwind ∷ []
 
 -- of a type that is loaded, neither TLS nor COMPRESSED, and not EXECINSTR beside WRITE or NOBITS
 abbrev pub is_supported : List ℕ → ℕ → Bool
 is_supported file i =
     list_any (λ t. t == sh_type file i) loaded_types
-    && not (has_flag file i tls) && not (has_flag file i compressed)
-    && not (has_flag file i execinstr && (has_flag file i write || sh_type file i == nobits))
+    && not (has_flag file i shf_tls) && not (has_flag file i shf_compressed)
+    && not (has_flag file i shf_execinstr
+    && (has_flag file i shf_write || sh_type file i == sht_nobits))
 
 -- a section that is loaded
 abbrev pub is_kept : List ℕ → ℕ → Bool
 is_kept file i = is_section file i && is_alloc file i && is_supported file i
 
 abbrev pub is_nobits : List ℕ → ℕ → Bool
-is_nobits file i = sh_type file i == nobits
+is_nobits file i = sh_type file i == sht_nobits
 
 -- the section's bytes end within the file
 abbrev pub lies_in_file : List ℕ → ℕ → Bool
@@ -89,14 +74,14 @@ is_wrong_section file i =
 -- O6: a section of type REL, GROUP or SYMTAB_SHNDX, or one that ought to be loaded and can't
 abbrev pub is_unsupported : List ℕ → ℕ → Bool
 is_unsupported file i =
-    list_any (λ t. t == sh_type file i) (9 ∷ 17 ∷ 18 ∷ [])
+    list_any (λ t. t == sh_type file i) (sht_rel ∷ sht_group ∷ sht_symtab_shndx ∷ [])
     || (is_alloc file i && not (is_supported file i))
 
 -- ---- symbols (gABI, "Symbol Table")
 
 -- a string table's number, and the table lies in the file
 abbrev pub is_strtab : List ℕ → ℕ → Bool
-is_strtab file i = is_section file i && (sh_type file i == strtab) && lies_in_file file i
+is_strtab file i = is_section file i && (sh_type file i == sht_strtab) && lies_in_file file i
 
 abbrev pub is_right_symtab : List ℕ → ℕ → Bool
 is_right_symtab file i =
@@ -110,26 +95,16 @@ are_right_symtabs file [] = true
 are_right_symtabs file (i ∷ []) = is_right_symtab file i
 are_right_symtabs file (i ∷ j ∷ more) = false
 
--- what st_shndx says where it is no section's number
-abbrev pub undef : ℕ
-undef = 0
-
-abbrev pub abs : ℕ
-abs = 65521
-
-abbrev pub common : ℕ
-common = 65522
-
 abbrev pub is_local : List ℕ → ℕ → Bool
-is_local file k = binding file k == 0
+is_local file k = binding file k == stb_local
 
 -- GLOBAL or WEAK
 abbrev pub has_name : List ℕ → ℕ → Bool
-has_name file k = (binding file k == 1) || (binding file k == 2)
+has_name file k = (binding file k == stb_global) || (binding file k == stb_weak)
 
 -- the symbol defines its name for other objects
 abbrev pub is_export : List ℕ → ℕ → Bool
-is_export file k = has_name file k && not (st_shndx file k == undef)
+is_export file k = has_name file k && not (st_shndx file k == shn_undef)
 
 -- the symbol is of a section that isn't kept
 abbrev pub is_of_dropped : List ℕ → ℕ → Bool
@@ -137,14 +112,14 @@ is_of_dropped file k = is_section file (st_shndx file k) && not (is_kept file (s
 
 -- LOCAL, GLOBAL or WEAK, and no thread-local type
 abbrev pub has_right_info : List ℕ → ℕ → Bool
-has_right_info file k = nat_le (binding file k) 2 && nat_le (symbol_type file k) 5
+has_right_info file k = nat_le (binding file k) stb_weak && nat_le (symbol_type file k) stt_common
 
 -- UNDEF but for LOCAL, ABS, COMMON for GLOBAL alone, or a section's number
 abbrev pub has_right_section : List ℕ → ℕ → Bool
 has_right_section file k =
-    (not (is_local file k) && (st_shndx file k == undef))
-    || (st_shndx file k == abs)
-    || ((binding file k == 1) && (st_shndx file k == common))
+    (not (is_local file k) && (st_shndx file k == shn_undef))
+    || (st_shndx file k == shn_abs)
+    || ((binding file k == stb_global) && (st_shndx file k == shn_common))
     || is_section file (st_shndx file k)
 
 -- within a kept section; a name of other objects' isn't of a section that isn't kept
@@ -157,7 +132,7 @@ has_right_value file k =
 -- a common symbol's value is its alignment
 abbrev pub has_right_common : List ℕ → ℕ → Bool
 has_right_common file k =
-    not (st_shndx file k == common)
+    not (st_shndx file k == shn_common)
     || ((st_value file k == 0 || is_alignment (st_value file k))
     && nat_le (st_size file k) max_size)
 
@@ -186,7 +161,7 @@ is_again file k =
 
 -- a RELA section whose target is kept
 abbrev pub is_used_rela : List ℕ → ℕ → Bool
-is_used_rela file i = (sh_type file i == rela) && is_kept file (sh_info file i)
+is_used_rela file i = (sh_type file i == sht_rela) && is_kept file (sh_info file i)
 
 abbrev pub entry_count : List ℕ → ℕ → ℕ
 entry_count file i = sh_size file i / 24
@@ -206,16 +181,18 @@ is_right_rela file i =
 -- O10: a RELA section without a target, or whose target is kept and which is wrong
 abbrev pub is_wrong_rela : List ℕ → ℕ → Bool
 is_wrong_rela file i =
-    (sh_type file i == rela)
+    (sh_type file i == sht_rela)
     && (not (nat_lt (sh_info file i) (e_shnum file))
     || (is_used_rela file i && not (is_right_rela file i)))
 
--- R_X86_64_64, PC32, PLT32, GOTPCREL, 32, 32S, PC64, GOTPCRELX and REX_GOTPCRELX, by their numbers
+-- the kind of a fixup by the number of its relocation type
 abbrev pub kind_of : ℕ → Option Kind
 kind_of n =
     lookup (λ m. m == n) (
-    (1, Abs64) ∷ (2, Pc32) ∷ (4, Plt32) ∷ (9, GotPcRel) ∷ (10, Abs32) ∷ (11, Abs32S) ∷ (24, Pc64)
-    ∷ (41, GotPcRelX) ∷ (42, RexGotPcRelX) ∷ []
+    (r_x86_64_64, Abs64) ∷ (r_x86_64_pc32, Pc32) ∷ (r_x86_64_plt32, Plt32)
+    ∷ (r_x86_64_gotpcrel, GotPcRel) ∷ (r_x86_64_32, Abs32) ∷ (r_x86_64_32s, Abs32S)
+    ∷ (r_x86_64_pc64, Pc64) ∷ (r_x86_64_gotpcrelx, GotPcRelX)
+    ∷ (r_x86_64_rex_gotpcrelx, RexGotPcRelX) ∷ []
     )
 
 -- the entries, each as its section and its number in it, of the sections whose target is kept
@@ -238,7 +215,7 @@ is_aim_of file k =
 -- O11; type 0 is NONE
 abbrev pub is_wrong_entry : List ℕ → ℕ × ℕ → Bool
 is_wrong_entry file e =
-    not (r_type file e.0 e.1 == 0)
+    not (r_type file e.0 e.1 == r_x86_64_none)
     && not (is_in_target file e.0 e.1 && is_aim_of file (r_sym file e.0 e.1))
 
 -- ---- the first
@@ -254,9 +231,9 @@ is_elf file =
 abbrev pub has_length : List ℕ → Bool
 has_length file = nat_le 64 (length file) && nat_le (length file) 1048576
 
--- ET_REL, EM_X86_64 and EV_CURRENT
 abbrev pub is_relocatable : List ℕ → Bool
-is_relocatable file = (e_type file == 1) && (e_machine file == 62) && (e_version file == 1)
+is_relocatable file =
+    (e_type file == et_rel) && (e_machine file == em_x86_64) && (e_version file == ev_current)
 
 abbrev pub max_sections : ℕ
 max_sections = 4096

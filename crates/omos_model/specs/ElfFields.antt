@@ -4,6 +4,7 @@ use Rattle.std.specs.Prelude.{if◌then◌else◌, List, take, drop, ℤ, unwrap
 use Rattle.std.specs.List.{slice_get, take_while}
 use Rattle.std.specs.Int.{cast_signed, w64}
 use Rattle.omos_base.specs.Fields.{number_at}
+use Rattle.omos_model.specs.ElfValues.{sht_symtab}
 use Rattle.omos_model.specs.Names.{Name}
 use Rattle.omos_model.specs.Numbers.{numbers_from}
 
@@ -76,7 +77,7 @@ sections file = numbers_from 1 (e_shnum file - 1)
 -- ---- symbol k (gABI, "Symbol Table")
 
 abbrev pub is_symtab : List ℕ → ℕ → Bool
-is_symtab file i = is_section file i && (sh_type file i == 2)
+is_symtab file i = is_section file i && (sh_type file i == sht_symtab)
 
 -- the symbol tables, of which an object has one at most
 abbrev pub symtabs : List ℕ → List ℕ

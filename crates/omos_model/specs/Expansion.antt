@@ -15,7 +15,7 @@ use Rattle.omos_model.specs.declared.entry.Entry.TheVariants as entry
 use Rattle.omos_model.specs.declared.refusal.Site.{Site}
 use Rattle.omos_model.specs.declared.refusal.Refusal.{Refusal}
 use Rattle.omos_model.specs.declared.refusal.Refusal.TheVariants.{NoEntry, Cycle, TooDeep, TooLarge}
-use Rattle.omos_model.specs.declared.visit.Visit.{Visit}
+use Rattle.omos_model.specs.Visit.{Visit}
 
 abbrev pub max_blueprints : ℕ
 max_blueprints = 32
@@ -108,8 +108,8 @@ visit at path (tree.Apply op x) v = and_then (begin at v) (λ s. one (Apply s op
 abbrev pub add_read : Name → Visit → Visit
 add_read p v = if is_among v.read p then v else record v { read = v.read ++ p ∷ [] }
 
--- a path is a node, but for the requested one
-abbrev pub begin_path : Bool → Name → Visitor Site
+-- a path of the blueprint `at` is a node of it, and counted, but for the requested one
+abbrev pub begin_path : (counted : Bool) → (at : Name) → Visitor Site
 begin_path true at v = begin at v
 begin_path false at v = Ok (here at v, v)
 
@@ -118,31 +118,36 @@ abbrev pub nested : Visitor Term → Visitor Term
 nested x v = and_then (x (record v { node = 0 })) (λ t w. Ok (t, record w { node = v.node }))
 
 -- a path by what stands under it: nothing, an object, or a blueprint, which `blueprint` visits
-abbrev pub entered : (Tree → Visitor Term) → Bool → Name → Name → Option Source → Visitor Term
-entered blueprint counts at p None v = Err (NoEntry (here at v) p)
-entered blueprint counts at p (Some (Object f)) v =
-    and_then (begin_path counts at (add_read p v)) (leaf f)
-entered blueprint counts at p (Some (Blueprint x)) v = blueprint x v
+abbrev pub entered : (blueprint : Tree → Visitor Term) → (counted : Bool) → (at : Name) → (p : Name)
+    → (entry : Option Source) → Visitor Term
+entered blueprint counted at p None v = Err (NoEntry (here at v) p)
+entered blueprint counted at p (Some (Object f)) v =
+    and_then (begin_path counted at (add_read p v)) (leaf f)
+entered blueprint counted at p (Some (Blueprint x)) v = blueprint x v
 
 -- a blueprint that isn't open yet
-abbrev pub unless_cycle : List Name → Name → Name → Visitor Term → Visitor Term
+abbrev pub unless_cycle : (above : List Name) → (at : Name) → (p : Name) → Visitor Term
+    → Visitor Term
 unless_cycle above at p x v = if is_among above p then Err (Cycle (here at v) p) else x v
 
-abbrev pub too_deep : Name → Name → Visitor Term
+abbrev pub too_deep : (at : Name) → (p : Name) → Visitor Term
 too_deep at p v = Err (TooDeep (here at v) p)
 
 -- the blueprint p, whose own paths are visited by `path`
-abbrev pub opened : (Name → Visitor Term) → Bool → Name → Name → Tree → Visitor Term
-opened path counts at p x v =
-    and_then (begin_path counts at (add_read p v)) (λ s. nested (visit p path x))
+abbrev pub opened : (path : Name → Visitor Term) → (counted : Bool) → (at : Name) → (p : Name)
+    → Tree → Visitor Term
+opened path counted at p x v =
+    and_then (begin_path counted at (add_read p v)) (λ s. nested (visit p path x))
 
--- the path p at a node of `at`, inside the blueprints `above`, where `room` more may be opened
-unfoldable pub expand : (Name → Option Source) → ℕ → List Name → Bool → Name → Name → Visitor Term
-expand ns zero above counts at p =
-    entered (λ x. unless_cycle above at p (too_deep at p)) counts at p (ns p)
-expand ns (suc room) above counts at p =
+-- the path p at a node of `at`, inside the blueprints `above`, where `room` more may be opened in
+-- one another, on the namespace that says what stands under each name
+unfoldable pub expand : (ns : Name → Option Source) → (room : ℕ) → (above : List Name)
+    → (counted : Bool) → (at : Name) → (p : Name) → Visitor Term
+expand ns zero above counted at p =
+    entered (λ x. unless_cycle above at p (too_deep at p)) counted at p (ns p)
+expand ns (suc room) above counted at p =
     let inner = expand ns room (above ++ p ∷ []) true p in
-    entered (λ x. unless_cycle above at p (opened inner counts at p x)) counts at p (ns p)
+    entered (λ x. unless_cycle above at p (opened inner counted at p x)) counted at p (ns p)
 
 abbrev pub first_visit : Visit
 first_visit = record { node = 0; nodes = 0; leaves = 0; exports = 0; fixups = 0; read = [] }

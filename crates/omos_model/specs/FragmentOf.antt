@@ -3,13 +3,15 @@ use Rattle.std.specs.Prelude.{ℕ, ◌+◌, ◌-◌, ◌==◌, Bool, ◌&&◌, i
 use Rattle.std.specs.Prelude.{map, filter, Option, Some, None, Result, Ok, Err}
 use Rattle.std.specs.List.{count_by, filter_map}
 use Rattle.std.specs.Option.{option_map}
+use Rattle.omos_model.specs.ElfValues.{shf_execinstr, shf_write, shn_abs, shn_common, shn_undef}
+use Rattle.omos_model.specs.ElfValues.{stb_weak}
 use Rattle.omos_model.specs.FragmentParts.{FragmentParts}
 use Rattle.omos_model.specs.Numbers.{numbers_from}
 use Rattle.omos_model.specs.ElfFields.{sh_size, sh_info, sh_addralign, has_flag, section_bytes}
 use Rattle.omos_model.specs.ElfFields.{sections}
 use Rattle.omos_model.specs.ElfFields.{symbols, st_shndx, st_value, st_size, binding, name_of}
 use Rattle.omos_model.specs.ElfFields.{r_offset, r_addend, r_sym, r_type}
-use Rattle.omos_model.specs.ElfFaults.{execinstr, write, is_kept, is_nobits, abs, common, undef}
+use Rattle.omos_model.specs.ElfFaults.{is_kept, is_nobits}
 use Rattle.omos_model.specs.ElfFaults.{is_local, is_export}
 use Rattle.omos_model.specs.ElfFaults.{kind_of, entries, object_fault}
 use Rattle.omos_model.specs.declared.fragment.Group.{Group}
@@ -29,8 +31,8 @@ abbrev pub group_of : List ℕ → ℕ → Group
 group_of file i =
     if is_nobits file i then Zeros
     else (
-    if has_flag file i execinstr then Code
-    else (if has_flag file i write then Vars else Consts)
+    if has_flag file i shf_execinstr then Code
+    else (if has_flag file i shf_write then Vars else Consts)
     )
 
 -- an alignment of 0 is 1
@@ -57,7 +59,7 @@ piece_of_common file k =
     }
 
 abbrev pub is_common : List ℕ → ℕ → Bool
-is_common file k = st_shndx file k == common
+is_common file k = st_shndx file k == shn_common
 
 abbrev pub kept_sections : List ℕ → List ℕ
 kept_sections file = filter (is_kept file) (sections file)
@@ -81,7 +83,7 @@ common_piece file k =
 
 abbrev pub spot_of : List ℕ → ℕ → Spot
 spot_of file k =
-    if st_shndx file k == abs then Fixed (st_value file k)
+    if st_shndx file k == shn_abs then Fixed (st_value file k)
     else (
     if is_common file k then Inside (common_piece file k) 0
     else Inside (section_piece file (st_shndx file k)) (st_value file k)
@@ -100,7 +102,7 @@ aim_of file k =
     if k == 0 then aim.At (Fixed 0)
     else (
     if is_local file k then aim.At (spot_of file k)
-    else aim.Name (name_of file k) ((st_shndx file k == undef) && (binding file k == 2))
+    else aim.Name (name_of file k) ((st_shndx file k == shn_undef) && (binding file k == stb_weak))
     )
 
 -- an entry's fixup; one of type NONE has none

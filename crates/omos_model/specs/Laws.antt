@@ -22,7 +22,7 @@ use Rattle.omos_model.specs.Footprint.{footprint}
 use Rattle.omos_model.specs.declared.entry.Entry.{Entry}
 use Rattle.omos_model.specs.declared.entry.Stamped.{Stamped}
 use Rattle.omos_model.specs.declared.refusal.Site.{Site}
-use Rattle.omos_model.specs.declared.visit.Visit.{Visit}
+use Rattle.omos_model.specs.Visit.{Visit}
 
 -- ---- operators
 

@@ -2,6 +2,7 @@ pub mod Names
 pub mod FragmentParts
 pub mod ImageParts
 pub mod Numbers
+pub mod ElfValues
 pub mod ElfFields
 pub mod ElfFaults
 pub mod FragmentOf
@@ -13,6 +14,7 @@ pub mod Definition
 pub mod State
 pub mod FirstRefusal
 pub mod Namespace
+pub mod Visit
 pub mod Expansion
 pub mod Footprint
 pub mod Places

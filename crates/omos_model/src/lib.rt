@@ -11,7 +11,6 @@ pub mod laws;
 mod mark;
 mod placement;
 mod refusal;
-mod visit;
 
 pub use entry::{Entry, Image, Stamped, Start};
 pub use expr::Expr;
@@ -19,4 +18,3 @@ pub use fragment::{Aim, Export, Fixup, Fragment, FragmentFault, Group, Kind, Pie
 pub use mark::{Landing, Mark, MarkRow, Target};
 pub use placement::{Place, Placement};
 pub use refusal::{BpFault, ObjectFault, Refusal, Site};
-pub use visit::Visit;

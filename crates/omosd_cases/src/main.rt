@@ -6,6 +6,7 @@
 #![tactic(auto)]
 
 mod case;
+mod each;
 mod input;
 mod output;
 mod run;

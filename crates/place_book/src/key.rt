@@ -42,6 +42,10 @@ pub fn key_of(path: &PathName) -> u32
         key = key_with_4(key, bytes, at);
         at += 4;
     }
+    if bytes.len() - at >= 2 {
+        key = key_with_2(key, bytes, at);
+        at += 2;
+    }
     'ones: while at < bytes.len() {
         key = key_with(key, bytes[at]);
         at += 1;
@@ -98,9 +102,13 @@ pub(crate) fn next_of(keys: &[u32], from: usize, key: u32) -> usize
     at
 }
 
-/// Whether one of the keys is the path's.
+/// Whether one of the keys is the path's. One key, as is usual, takes no loop.
 pub fn is_listed(keys: &[u32], path: &PathName) -> bool
     ensures { result ≡ is_listed keys.now path.now }
 {
-    next_of(keys, 0, key_of(path)) < keys.len()
+    let key = key_of(path);
+    if keys.len() == 1 {
+        return keys[0] == key;
+    }
+    next_of(keys, 0, key) < keys.len()
 }

@@ -1,7 +1,7 @@
 use Rattle.std.proofs.Common.{◌≡◌, ◌<◌, refl, ap, sym, ◌∙◌, true, false}
 use Rattle.std.proofs.lemmas.Bool.{ne_eqb}
+use Rattle.omos_model.specs.ElfValues.{sht_rela}
 use Rattle.omos_model.specs.ElfFields.{e_shnum, sh_size, sh_type}
-use Rattle.omos_model.specs.ElfFaults.{rela}
 use Rattle.elf_words.specs.declared.shdr.Shdr.{Shdr}
 use Rattle.elf_object.proofs.Sums.{other_kind, dropped, used, fine, is_rela, target, with_used, without_used}
 use Rattle.elf_object.proofs.relas.entries_after.Goals as goal
@@ -12,7 +12,7 @@ returns-then-header-ne-SHT_RELA c =
     let i = c.args.i in
     let e : c.section-header.result.sh_type ≡ sh_type file i = ap (λ (s : Shdr). s.sh_type)
     c.section-header.ensures in
-    let is = other_kind file i (ne_eqb (sh_type file i) rela
+    let is = other_kind file i (ne_eqb (sh_type file i) sht_rela
     (λ h. c.if-header-ne-SHT_RELA.true (e ∙ h))) in (
       is.right,
       without_used file i c.args.before c.requires.counted c.requires.sum is.unused,

@@ -1,6 +1,6 @@
 use Rattle.std.proofs.Common.{[], ◌∙◌, ap, arith, length, refl, subst, sym}
 use Rattle.std.specs.Map.{keys_of}
-use Rattle.omos_model.specs.declared.visit.Visit.{Visit}
+use Rattle.omos_model.specs.Visit.{Visit}
 use Rattle.module_eval.specs.Costs.{operators_of}
 use Rattle.module_eval.specs.Kept.{AreKept}
 use Rattle.module_eval.proofs.Known.{known_first}

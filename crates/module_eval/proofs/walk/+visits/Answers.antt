@@ -12,7 +12,7 @@ use Rattle.module_eval.specs.Known.{AreKnown}
 use Rattle.module_eval.specs.Operators.{op_of}
 use Rattle.module_eval.specs.Reaches.{HasRoom, added, tally_of}
 use Rattle.module_eval.specs.declared.reach.Tally.{Tally}
-use Rattle.omos_model.specs.declared.visit.Visit.{Visit}
+use Rattle.omos_model.specs.Visit.{Visit}
 use Rattle.module_eval.specs.Pendings.{Comes, EndsAt, EndsIn, others_in}
 use Rattle.module_eval.specs.Walked.{Walked, path_in, term_with, tree_in}
 use Rattle.module_eval.proofs.Again.{run_of}
