@@ -36,7 +36,6 @@ use Rattle.omos_model.specs.declared.refusal.ObjectFault.TheVariants as fault
 
 -- ---- sections (gABI, "Sections"; x86-64 psABI, "Special Sections")
 
-
 abbrev pub is_alloc : List ℕ → ℕ → Bool
 is_alloc file i = has_flag file i shf_alloc
 
