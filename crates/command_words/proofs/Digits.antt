@@ -8,7 +8,8 @@ use Rattle.command_words.specs.Numbers.{is_digit}
 -- fewer than nine digits leave room for one more
 pub room : (value count : ℕ) → value < 10 ^ count → count ≤ 8 → value < 100000000
 room value count below few =
-    let more : 10 ^ count ≤ 100000000 = pow-le-pow_right {n = 10} (omega arith) {i = count} {j = 8} few in
+    let more : 10 ^ count ≤ 100000000 =
+    pow-le-pow_right {n = 10} (omega arith) {i = count} {j = 8} few in
     omega (arith, below, more)
 
 -- one more digit is below ten times as much

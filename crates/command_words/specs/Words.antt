@@ -1,5 +1,6 @@
 -- What the words of the server's command lines say.
-use Rattle.std.specs.Prelude.{ℕ, ◌==◌, ◌≤◌, nat_le, Bool, false, ◌&&◌, List, [], ◌∷◌, length, codes, Option, None}
+use Rattle.std.specs.Prelude.{ℕ, ◌==◌, ◌≤◌, nat_le, Bool, false, ◌&&◌, List, [], ◌∷◌, length, codes}
+use Rattle.std.specs.Prelude.{Option, None}
 use Rattle.std.specs.Prelude.{Some, if◌then◌else◌}
 use Rattle.std.specs.Cmp.Lexicographic.{pointwise}
 use Rattle.omos_base.specs.Limits.{AreLimits, Counts}

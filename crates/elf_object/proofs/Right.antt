@@ -5,7 +5,8 @@ use Rattle.std.proofs.lemmas.Bool.{and_parts, or_parts, not-false, ltb-true, leb
 use Rattle.std.proofs.lemmas.Bool.{not_from_false, not_from_true}
 use Rattle.omos_model.specs.ElfValues.{sht_rela}
 use Rattle.omos_model.specs.Names.{is_symbol_name}
-use Rattle.omos_model.specs.ElfFields.{e_shnum, is_section, name_of, sh_info, sh_offset, sh_size, sh_type}
+use Rattle.omos_model.specs.ElfFields.{e_shnum, is_section, name_of, sh_info, sh_offset, sh_size}
+use Rattle.omos_model.specs.ElfFields.{sh_type}
 use Rattle.omos_model.specs.ElfFields.{symbol_count}
 use Rattle.omos_model.specs.ElfFaults.{has_name, is_kept, is_nobits, is_used_rela, lies_in_file}
 use Rattle.omos_model.specs.ElfFaults.{is_right_rela, is_wrong_rela, is_wrong_symbol, object_fault}

@@ -41,9 +41,11 @@ pub note_now : (P more : List Step) (seat n : ℕ) (note : Note) → is_answered
     → note_of (P ++ Answered seat n note ∷ more) n ≡ Some note
 note_now P more seat n note un =
     let same : (n == n) ≡ true = grind (arith, nat_tests) in
-    let none = none_is (note_of P n) (first_passes (note_in n) (is_answer_of n) (note_in_is n) P ∙ un) in
+    let none =
+    none_is (note_of P n) (first_passes (note_in n) (is_answer_of n) (note_in_is n) P ∙ un) in
     ap first_of (filter_map-append (note_in n) P (Answered seat n note ∷ more))
-    ∙ first_behind (filter_map (note_in n) P) (filter_map (note_in n) (Answered seat n note ∷ more)) none
+    ∙ first_behind (filter_map (note_in n) P) (filter_map (note_in n) (Answered seat n note ∷ more))
+    none
     ∙ rw same refl
 
 still : (a b : Bool) → (b ≡ true → a ≡ true) → (a || (b || false)) ≡ a
@@ -66,7 +68,8 @@ waits_still P seat n note e =
     each x =
         ap (λ b. is_asked x && not b) (answered_push P (Answered seat n note) (number_of x)
         ∙ still (is_answered P (number_of x)) (n == number_of x)
-        (λ d. ap (is_answered P) (let same : number_of x ≡ n = grind (arith, nat_tests, d) in same) ∙ e))
+        (λ d. ap (is_answered P) (let same : number_of x ≡ n = grind (arith, nat_tests, d) in same)
+        ∙ e))
 
 unanswered_before : (P : List Step) (seat n : ℕ) (note : Note) → IsNumbered P
     → IsNumbered (P ++ Answered seat n note ∷ []) → is_answered P n ≡ false

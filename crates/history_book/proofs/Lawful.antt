@@ -36,11 +36,13 @@ kind_behind s d (Leaves seat number path a b e) = (ap is_asked e, ap placement_o
 kind_behind s d (Comes seat number path version a b e) = (ap is_asked e, ap placement_of e)
 
 -- no link request and no placement is ever due
-due_kind : (c : ℕ) (P : List Step) (d : Step) → due c P ≡ Some d → (is_asked d ≡ false) × (placement_of d ≡ None)
+due_kind : (c : ℕ) (P : List Step) (d : Step) → due c P ≡ Some d → (is_asked d ≡ false)
+    × (placement_of d ≡ None)
 unfolding due
 due_kind c P d e = go (reverse P) e
   where
-    go : (back : List Step) → due_behind c P back ≡ Some d → (is_asked d ≡ false) × (placement_of d ≡ None)
+    go : (back : List Step) → due_behind c P back ≡ Some d → (is_asked d ≡ false)
+        × (placement_of d ≡ None)
     go [] k = cc
     go (s ∷ before) k = kind_behind s d (due_is c P s before d k)
 
@@ -54,28 +56,33 @@ pub record IsSound (c : ℕ) (P : List Step) : Type 0 where
   pub next : (d : Step) → due c P ≡ Some d → IsGood (P ++ d ∷ []) d
 
 hit_next : (P : List Step) (seat : ℕ) (path : Name) (version base : ℕ) → IsNumbered P
-    → IsGood ((P ++ Asked seat (requests P) path version true ∷ []) ++ Answered seat (requests P) (Image base) ∷ []) (Answered seat (requests P) (Image base))
+    → IsGood ((P ++ Asked seat (requests P) path version true ∷ [])
+    ++ Answered seat (requests P) (Image base) ∷ []) (Answered seat (requests P) (Image base))
 hit_next P seat path version base h =
     let n : ℕ = requests P in
     let s : Step = Asked seat n path version true in
     let a : Step = Answered seat n (Image base) in
-    let ask : Ask = record { seat = seat; number = n; path = path; version = version; hit = true } in
+    let ask : Ask =
+    record { seat = seat; number = n; path = path; version = version; hit = true } in
     let waiting : IsOpen (P ++ s ∷ []) ask = record {
       asked = ask_now P seat n path version true (fresh_ask P n h.below);
       waits = answered_same P s refl n ∙ fresh_answer P n h.below;
     } in (
-      numbered_answer (P ++ s ∷ []) ask seat (Image base) (numbered_ask P seat path version true h) waiting,
+      numbered_answer (P ++ s ∷ []) ask seat (Image base) (numbered_ask P seat path version true h)
+          waiting,
       same_below (P ++ s ∷ []) a n (request_below P s n refl refl),
     )
 
-pub follows_good : (c r : ℕ) (P : List Step) (s : Step) → IsSound c P → Follows c r P s → IsGood (P ++ s ∷ []) s
+pub follows_good : (c r : ℕ) (P : List Step) (s : Step) → IsSound c P → Follows c r P s
+    → IsGood (P ++ s ∷ []) s
 follows_good c r P s h f = go (due c P) refl f
   where
     go : (o : Option Step) → due c P ≡ o → FollowsDue r P s o → IsGood (P ++ s ∷ []) s
     go (Some d) e k = subst (λ x. IsGood (P ++ x ∷ []) x) (sym k) (h.next d e)
     go None e k = let g = allowed_numbered r P s h.numbered k in (g.0, g.1)
 
-asked_next : (c r : ℕ) (P : List Step) (s : Step) (seat number : ℕ) (path : Name) (version : ℕ) → Follows c r P s
+asked_next : (c r : ℕ) (P : List Step) (s : Step) (seat number : ℕ) (path : Name) (version : ℕ)
+    → Follows c r P s
     → s ≡ Asked seat number path version true → number ≡ requests P
 asked_next c r P s seat number path version f is = go (due c P) refl f
   where
@@ -85,21 +92,27 @@ asked_next c r P s seat number path version f is = go (due c P) refl f
         cc
     go None e k = let a = subst (IsAllowed r P) is k in a.0.next
 
-pub sound_push : (c r : ℕ) (P : List Step) (s : Step) → IsSound c P → Follows c r P s → IsSound c (P ++ s ∷ [])
+pub sound_push : (c r : ℕ) (P : List Step) (s : Step) → IsSound c P → Follows c r P s
+    → IsSound c (P ++ s ∷ [])
 sound_push c r P s h f =
     let g = follows_good c r P s h f in
     record {
       numbered = g.0;
-      next = λ d e. behind d (due_is c (P ++ s ∷ []) s (reverse P) d (sym (due_push c P s) ∙ e)) g.0 g.1;
+      next = λ d e. behind d (due_is c (P ++ s ∷ []) s (reverse P) d (sym (due_push c P s) ∙ e)) g.0
+          g.1;
     }
   where
-    behind : (d : Step) → IsDueBehind s d → IsNumbered (P ++ s ∷ []) → number_of s < requests (P ++ s ∷ [])
+    behind : (d : Step) → IsDueBehind s d → IsNumbered (P ++ s ∷ [])
+        → number_of s < requests (P ++ s ∷ [])
         → IsGood ((P ++ s ∷ []) ++ d ∷ []) d
     behind d (Answer seat number path version base is e) n l =
         let num : number ≡ requests P = asked_next c r P s seat number path version f is in
         subst (λ (x : Step). IsGood ((P ++ x ∷ []) ++ d ∷ []) d) (sym is)
-        (subst (λ (y : Step). IsGood ((P ++ Asked seat number path version true ∷ []) ++ y ∷ []) y) (sym e)
-        (subst (λ (m : ℕ). IsGood ((P ++ Asked seat m path version true ∷ []) ++ Answered seat m (Image base) ∷ []) (Answered seat m (Image base))) (sym num)
+        (subst (λ (y : Step). IsGood ((P ++ Asked seat number path version true ∷ []) ++ y ∷ []) y)
+        (sym e)
+        (subst (λ (m : ℕ). IsGood
+        ((P ++ Asked seat m path version true ∷ []) ++ Answered seat m (Image base) ∷ [])
+        (Answered seat m (Image base))) (sym num)
         (hit_next P seat path version base h.numbered)))
     behind d (Leaves seat number path a b e) n l =
         let t : Step = Evicted seat number path in
@@ -112,14 +125,16 @@ sound_push c r P s h f =
         subst (λ (y : Step). IsGood ((P ++ s ∷ []) ++ y ∷ []) y) (sym e)
         (numbered_other (P ++ s ∷ []) t n low refl refl, low)
 
-pub sound_all : (c r : ℕ) (P more : List Step) → IsSound c P → Runs c r P more → IsSound c (P ++ more)
+pub sound_all : (c r : ℕ) (P more : List Step) → IsSound c P → Runs c r P more
+    → IsSound c (P ++ more)
 sound_all c r P [] h runs = subst (IsSound c) (sym (append-nil P)) h
 sound_all c r P (s ∷ more) h runs =
     subst (IsSound c) (append_assoc P (s ∷ []) more)
     (sound_all c r (P ++ s ∷ []) more (sound_push c r P s h runs.0) runs.1)
 
 pub sound_nothing : (c : ℕ) → IsSound c []
-sound_nothing c = record { numbered = numbered_nothing; next = λ d e. none d (sym (due_nothing c) ∙ e) }
+sound_nothing c =
+    record { numbered = numbered_nothing; next = λ d e. none d (sym (due_nothing c) ∙ e) }
   where
     none : (d : Step) → None ≡ Some d → IsGood ([] ++ d ∷ []) d
     none d k = cc
@@ -129,27 +144,37 @@ numbers_law c r P legal = (sound_all c r [] P (sound_nothing c) legal.runs).numb
 
 -- ---- the book
 
-grows_append : (book xs ys : List Placement) → Grows book xs → Grows (book ++ xs) ys → Grows book (xs ++ ys)
+grows_append : (book xs ys : List Placement) → Grows book xs → Grows (book ++ xs) ys
+    → Grows book (xs ++ ys)
 grows_append book [] ys g h = subst (λ b. Grows b ys) (append-nil book) h
-grows_append book (x ∷ xs) ys g h =
-    (g.0, grows_append (book ++ x ∷ []) xs ys g.1 (subst (λ b. Grows b ys) (sym (append_assoc book (x ∷ []) xs)) h))
+grows_append book (x ∷ xs) ys g h = (
+  g.0,
+  grows_append (book ++ x ∷ []) xs ys g.1
+      (subst (λ b. Grows b ys) (sym (append_assoc book (x ∷ []) xs)) h),
+)
 
-allowed_grows : (r : ℕ) (P : List Step) (s : Step) → IsAllowed r P s → Grows (book_of P) (book_of (s ∷ []))
+allowed_grows : (r : ℕ) (P : List Step) (s : Step) → IsAllowed r P s
+    → Grows (book_of P) (book_of (s ∷ []))
 allowed_grows r P (Put seat number path entry size) a = tt
 allowed_grows r P (Missed seat number) a = tt
 allowed_grows r P (Looked seat number look) a = tt
 allowed_grows r P (Asked seat number path version hit) a = tt
-allowed_grows r P (Placed seat number path base pages) a =
-    (new_joins (book_of P) path a.1.pages a.1.lo a.1.hi base (record { path = path; base = base; pages = pages }) a.4.place refl (sym a.5), tt)
+allowed_grows r P (Placed seat number path base pages) a = (
+  new_joins (book_of P) path a.1.pages a.1.lo a.1.hi base
+      (record { path = path; base = base; pages = pages }) a.4.place refl (sym a.5),
+  tt,
+)
 allowed_grows r P (Answered seat number note) a = tt
 allowed_grows r P (Evicted seat number path) a = tt
 allowed_grows r P (Stored seat number path version) a = tt
 allowed_grows r P (Flushed seat number path held) a = tt
 
-nothing_grows : (book : List Placement) (d : Step) → placement_of d ≡ None → Grows book (book_of (d ∷ []))
+nothing_grows : (book : List Placement) (d : Step) → placement_of d ≡ None
+    → Grows book (book_of (d ∷ []))
 nothing_grows book d e = subst (λ o. Grows book (cons_option o [])) (sym e) tt
 
-follows_grows : (c r : ℕ) (P : List Step) (s : Step) → Follows c r P s → Grows (book_of P) (book_of (s ∷ []))
+follows_grows : (c r : ℕ) (P : List Step) (s : Step) → Follows c r P s
+    → Grows (book_of P) (book_of (s ∷ []))
 follows_grows c r P s f = go (due c P) refl f
   where
     go : (o : Option Step) → due c P ≡ o → FollowsDue r P s o → Grows (book_of P) (book_of (s ∷ []))
@@ -161,7 +186,8 @@ book_grows c r P [] runs = tt
 book_grows c r P (s ∷ more) runs =
     subst (Grows (book_of P)) (sym (filter_map-append placement_of (s ∷ []) more))
     (grows_append (book_of P) (book_of (s ∷ [])) (book_of more) (follows_grows c r P s runs.0)
-    (subst (λ b. Grows b (book_of more)) (book_push P s) (book_grows c r (P ++ s ∷ []) more runs.1)))
+    (subst (λ b. Grows b (book_of more)) (book_push P s)
+    (book_grows c r (P ++ s ∷ []) more runs.1)))
 
 pub book_law : BookLaw
 book_law c r P legal = book_grows c r [] P legal.runs
@@ -171,13 +197,16 @@ book_law c r P legal = book_grows c r [] P legal.runs
 pub place_stays : PlaceStaysLaw
 place_stays c r P more a plan base runs l h = record {
   planned = ap (λ ns. plan_of ns a.path) (namespace_stays P more a.version l) ∙ h.planned;
-  place = ap (λ b. place_for b a.path plan.pages plan.lo plan.hi) (filter_map-append placement_of P more)
+  place = ap (λ b. place_for b a.path plan.pages plan.lo plan.hi)
+      (filter_map-append placement_of P more)
       ∙ held_stays (book_of P) (book_of more) a.path plan.pages plan.lo plan.hi base h.place;
 }
 
 pub room_stays : NoRoomStaysLaw
 room_stays c r P more a plan runs l h = record {
   planned = ap (λ ns. plan_of ns a.path) (namespace_stays P more a.version l) ∙ h.planned;
-  place = ap (λ b. place_for b a.path plan.pages plan.lo plan.hi) (filter_map-append placement_of P more)
-      ∙ no_room_stays (book_of P) (book_of more) a.path plan.pages plan.lo plan.hi (book_grows c r P more runs) h.place;
+  place = ap (λ b. place_for b a.path plan.pages plan.lo plan.hi)
+      (filter_map-append placement_of P more)
+      ∙ no_room_stays (book_of P) (book_of more) a.path plan.pages plan.lo plan.hi
+      (book_grows c r P more runs) h.place;
 }

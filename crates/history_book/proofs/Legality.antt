@@ -31,7 +31,8 @@ pub dues_one : (c : ℕ) (P : List Step) (s : Step) → due c P ≡ Some s → d
     → dues c P ≡ s ∷ []
 dues_one c P s e none = ap (dues_from c P) e ∙ ap (λ o. s ∷ one_due o) none
 
-pub dues_two : (c : ℕ) (P : List Step) (s t : Step) → due c P ≡ Some s → due c (P ++ s ∷ []) ≡ Some t
+pub dues_two : (c : ℕ) (P : List Step) (s t : Step) → due c P ≡ Some s
+    → due c (P ++ s ∷ []) ≡ Some t
     → dues c P ≡ s ∷ t ∷ []
 dues_two c P s t e next = ap (dues_from c P) e ∙ ap (λ o. s ∷ one_due o) next
 
@@ -40,14 +41,18 @@ dues_two c P s t e next = ap (dues_from c P) e ∙ ap (λ o. s ∷ one_due o) ne
 pub runs_push : (c r : ℕ) (D P : List Step) (s : Step) → Runs c r D P → Follows c r (D ++ P) s
     → Runs c r D (P ++ s ∷ [])
 runs_push c r D [] s runs f = (subst (λ (E : List Step). Follows c r E s) (append-nil D) f, tt)
-runs_push c r D (x ∷ P) s runs f =
-    (runs.0, runs_push c r (D ++ x ∷ []) P s runs.1 (subst (λ (E : List Step). Follows c r E s) (sym (append_assoc D (x ∷ []) P)) f))
+runs_push c r D (x ∷ P) s runs f = (
+  runs.0,
+  runs_push c r (D ++ x ∷ []) P s runs.1
+      (subst (λ (E : List Step). Follows c r E s) (sym (append_assoc D (x ∷ []) P)) f),
+)
 
 -- ---- a record that is cut
 
 runs_apart : (c r : ℕ) (P xs ys : List Step) → Runs c r P (xs ++ ys)
     → Runs c r P xs × Runs c r (P ++ xs) ys
-runs_apart c r P [] ys runs = (tt, subst (λ (Q : List Step). Runs c r Q ys) (sym (append-nil P)) runs)
+runs_apart c r P [] ys runs =
+    (tt, subst (λ (Q : List Step). Runs c r Q ys) (sym (append-nil P)) runs)
 runs_apart c r P (x ∷ xs) ys runs =
     let rest = runs_apart c r (P ++ x ∷ []) xs ys runs.1 in
     ((runs.0, rest.0), subst (λ (Q : List Step). Runs c r Q ys) (append_assoc P (x ∷ []) xs) rest.1)
@@ -67,7 +72,8 @@ cut_law c r P xs ys = (
   λ parts. runs_joined c r P xs ys parts.0 parts.1,
 )
 
-allowed_follows : (c r : ℕ) (P : List Step) (s : Step) → due c P ≡ None → IsAllowed r P s → Follows c r P s
+allowed_follows : (c r : ℕ) (P : List Step) (s : Step) → due c P ≡ None → IsAllowed r P s
+    → Follows c r P s
 allowed_follows c r P s e a = subst (FollowsDue r P s) (sym e) a
 
 due_follows : (c r : ℕ) (P : List Step) (s : Step) → due c P ≡ Some s → Follows c r P s

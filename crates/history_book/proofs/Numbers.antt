@@ -60,23 +60,28 @@ first_passes f test same (s ∷ P) =
 pub asked_is : (n : ℕ) (P : List Step) → is_some (ask_of P n) ≡ list_any (is_ask_of n) P
 asked_is n P = first_passes (ask_in n) (is_ask_of n) (ask_in_is n) P
 
-pub has_ask : (n : ℕ) (P : List Step) (a : Ask) → ask_of P n ≡ Some a → list_any (is_ask_of n) P ≡ true
+pub has_ask : (n : ℕ) (P : List Step) (a : Ask) → ask_of P n ≡ Some a
+    → list_any (is_ask_of n) P ≡ true
 has_ask n P a e = sym (asked_is n P) ∙ ap is_some e
 
-pub first_stays : {X : Type 0} (xs ys : List X) (x : X) → first_of xs ≡ Some x → first_of (xs ++ ys) ≡ Some x
+pub first_stays : {X : Type 0} (xs ys : List X) (x : X) → first_of xs ≡ Some x
+    → first_of (xs ++ ys) ≡ Some x
 first_stays [] ys x e = absurd cc
 first_stays (y ∷ xs) ys x e = e
 
-pub first_behind : {X : Type 0} (xs ys : List X) → first_of xs ≡ None → first_of (xs ++ ys) ≡ first_of ys
+pub first_behind : {X : Type 0} (xs ys : List X) → first_of xs ≡ None
+    → first_of (xs ++ ys) ≡ first_of ys
 first_behind [] ys e = refl
 first_behind (x ∷ xs) ys e = absurd cc
 
-pub ask_stays : (P Q : List Step) (n : ℕ) (a : Ask) → ask_of P n ≡ Some a → ask_of (P ++ Q) n ≡ Some a
+pub ask_stays : (P Q : List Step) (n : ℕ) (a : Ask) → ask_of P n ≡ Some a
+    → ask_of (P ++ Q) n ≡ Some a
 ask_stays P Q n a e =
     ap first_of (filter_map-append (ask_in n) P Q)
     ∙ first_stays (filter_map (ask_in n) P) (filter_map (ask_in n) Q) a e
 
-pub ask_now : (P : List Step) (seat n : ℕ) (path : Name) (version : ℕ) (hit : Bool) → ask_of P n ≡ None
+pub ask_now : (P : List Step) (seat n : ℕ) (path : Name) (version : ℕ) (hit : Bool)
+    → ask_of P n ≡ None
     → ask_of (P ++ Asked seat n path version hit ∷ []) n
     ≡ Some (record { seat = seat; number = n; path = path; version = version; hit = hit })
 ask_now P seat n path version hit e =
@@ -103,50 +108,80 @@ no_ask n s l = and_right (is_asked s) (number_of s == n) (apart (number_of s) n 
 
 pub fresh_ask : (P : List Step) (n : ℕ) → All (IsBelow n) P → ask_of P n ≡ None
 fresh_ask P n all =
-    none_is (ask_of P n) (asked_is n P ∙ list_any_none (is_ask_of n) P (All-weaker (IsBelow n) (λ s. is_ask_of n s ≡ false) (no_ask n) P all))
+    none_is (ask_of P n)
+    (asked_is n P
+    ∙ list_any_none (is_ask_of n) P
+    (All-weaker (IsBelow n) (λ s. is_ask_of n s ≡ false) (no_ask n) P all))
 
 pub fresh_answer : (P : List Step) (n : ℕ) → All (IsBelow n) P → is_answered P n ≡ false
 fresh_answer P n all =
-    list_any_none (is_answer_of n) P (All-weaker (IsBelow n) (λ s. is_answer_of n s ≡ false) (λ s l. and_right (is_answer s) (number_of s == n) (apart (number_of s) n l)) P all)
+    list_any_none (is_answer_of n) P
+    (All-weaker (IsBelow n) (λ s. is_answer_of n s ≡ false)
+    (λ s l. and_right (is_answer s) (number_of s == n) (apart (number_of s) n l)) P all)
 
 pub fresh_place : (P : List Step) (n : ℕ) → All (IsBelow n) P → is_placed P n ≡ false
 fresh_place P n all =
-    list_any_none (is_placing_of n) P (All-weaker (IsBelow n) (λ s. is_placing_of n s ≡ false) (λ s l. and_right (is_placing s) (number_of s == n) (apart (number_of s) n l)) P all)
+    list_any_none (is_placing_of n) P
+    (All-weaker (IsBelow n) (λ s. is_placing_of n s ≡ false)
+    (λ s l. and_right (is_placing s) (number_of s == n) (apart (number_of s) n l)) P all)
 
 fresh_count : (n : ℕ) (P : List Step) → All (IsBelow n) P → count_by (is_ask_of n) P ≡ 0
 fresh_count n [] all = refl
 fresh_count n (s ∷ P) all =
-    omega (arith, sum_by-cons (λ x. one_if (is_ask_of n x)) s P, ap one_if (no_ask n s (All-head (IsBelow n) s P all)), fresh_count n P (All-tail (IsBelow n) s P all))
+    omega (
+      arith,
+      sum_by-cons (λ x. one_if (is_ask_of n x)) s P,
+      ap one_if (no_ask n s (All-head (IsBelow n) s P all)),
+      fresh_count n P (All-tail (IsBelow n) s P all),
+    )
 
 -- a number that was asked isn't still to come
-pub asked_below : (P : List Step) (a : Ask) → IsNumbered P → ask_of P a.number ≡ Some a → a.number < requests P
+pub asked_below : (P : List Step) (a : Ask) → IsNumbered P → ask_of P a.number ≡ Some a
+    → a.number < requests P
 asked_below P a h e = go (nat_lt a.number (requests P)) refl
   where
     go : (b : Bool) → nat_lt a.number (requests P) ≡ b → a.number < requests P
     go true d = grind (arith, nat_tests, d)
     go false d =
         let l : requests P ≤ a.number = grind (arith, nat_tests, d) in
-        let none = fresh_ask P a.number (All-weaker (IsBelow (requests P)) (IsBelow a.number) (λ s i. omega arith) P h.below) in
+        let none =
+        fresh_ask P a.number
+        (All-weaker (IsBelow (requests P)) (IsBelow a.number) (λ s i. omega arith) P h.below) in
         absurd (true≢false (ap is_some (sym e ∙ none)))
 
 -- ---- counting
 
-pub count_same : {X : Type 0} (p q : X → Bool) → ((x : X) → p x ≡ q x) → (xs : List X) → count_by p xs ≡ count_by q xs
+pub count_same : {X : Type 0} (p q : X → Bool) → ((x : X) → p x ≡ q x) → (xs : List X)
+    → count_by p xs ≡ count_by q xs
 count_same p q same [] = refl
 count_same p q same (x ∷ xs) =
-    omega (arith, sum_by-cons (λ y. one_if (p y)) x xs, sum_by-cons (λ y. one_if (q y)) x xs, ap one_if (same x), count_same p q same xs)
+    omega (
+      arith,
+      sum_by-cons (λ y. one_if (p y)) x xs,
+      sum_by-cons (λ y. one_if (q y)) x xs,
+      ap one_if (same x),
+      count_same p q same xs,
+    )
 
 counts_add : {X : Type 0} (f g h : X → ℕ) → ((x : X) → f x + g x ≡ h x) → (xs : List X)
     → sum_by f xs + sum_by g xs ≡ sum_by h xs
 counts_add f g h same [] = refl
 counts_add f g h same (x ∷ xs) =
-    omega (arith, sum_by-cons f x xs, sum_by-cons g x xs, sum_by-cons h x xs, same x, counts_add f g h same xs)
+    omega (
+      arith,
+      sum_by-cons f x xs,
+      sum_by-cons g x xs,
+      sum_by-cons h x xs,
+      same x,
+      counts_add f g h same xs,
+    )
 
 any_counts : {X : Type 0} (p : X → Bool) (xs : List X) → list_any p xs ≡ true → 1 ≤ count_by p xs
 any_counts p [] e = absurd (true≢false (sym e))
 any_counts p (x ∷ xs) e = go (p x) refl e (any_counts p xs)
   where
-    go : (b : Bool) → p x ≡ b → (b || list_any p xs) ≡ true → (list_any p xs ≡ true → 1 ≤ count_by p xs)
+    go : (b : Bool) → p x ≡ b → (b || list_any p xs) ≡ true
+        → (list_any p xs ≡ true → 1 ≤ count_by p xs)
         → 1 ≤ count_by p (x ∷ xs)
     go true d k i = omega (arith, sum_by-cons (λ y. one_if (p y)) x xs, ap one_if d)
     go false d k i = omega (arith, sum_by-cons (λ y. one_if (p y)) x xs, i k)
@@ -172,24 +207,34 @@ unanswered_push : (P : List Step) (s : Step) → is_answer s ≡ false
     → unanswered (P ++ s ∷ []) ≡ unanswered P + one_if (is_waiting P s)
 unanswered_push P s e =
     sum_by_push (λ x. one_if (is_waiting (P ++ s ∷ []) x)) P s
-    ∙ ap (λ n. n + one_if (is_waiting (P ++ s ∷ []) s)) (count_same (is_waiting (P ++ s ∷ [])) (is_waiting P) (waits_same P s e) P)
+    ∙ ap (λ n. n + one_if (is_waiting (P ++ s ∷ []) s))
+    (count_same (is_waiting (P ++ s ∷ [])) (is_waiting P) (waits_same P s e) P)
     ∙ ap (λ b. unanswered P + one_if b) (waits_same P s e s)
 
-below_push : (P : List Step) (s : Step) → All (IsBelow (requests P)) P → number_of s < requests (P ++ s ∷ [])
+below_push : (P : List Step) (s : Step) → All (IsBelow (requests P)) P
+    → number_of s < requests (P ++ s ∷ [])
     → All (IsBelow (requests (P ++ s ∷ []))) (P ++ s ∷ [])
 below_push P s all l =
     All-push (IsBelow (requests (P ++ s ∷ []))) P s
-    (All-weaker (IsBelow (requests P)) (IsBelow (requests (P ++ s ∷ []))) (λ x h. omega (arith, requests_push P s)) P all) l
+    (All-weaker (IsBelow (requests P)) (IsBelow (requests (P ++ s ∷ [])))
+    (λ x h. omega (arith, requests_push P s)) P all) l
 
-pub counted : (p : Step → Bool) (P : List Step) (s : Step) → count_by p (P ++ s ∷ []) ≡ count_by p P + one_if (p s)
+pub counted : (p : Step → Bool) (P : List Step) (s : Step)
+    → count_by p (P ++ s ∷ []) ≡ count_by p P + one_if (p s)
 counted p P s = sum_by_push (λ x. one_if (p x)) P s
 
 -- neither a link request nor an answer
-pub numbered_other : (P : List Step) (s : Step) → IsNumbered P → number_of s < requests (P ++ s ∷ [])
+pub numbered_other : (P : List Step) (s : Step) → IsNumbered P
+    → number_of s < requests (P ++ s ∷ [])
     → is_asked s ≡ false → is_answer s ≡ false → IsNumbered (P ++ s ∷ [])
 numbered_other P s h l no_asking no_answer = record {
   below = below_push P s h.below l;
-  once = λ n. omega (arith, counted (is_ask_of n) P s, ap one_if (and_left (is_asked s) (number_of s == n) no_asking), h.once n);
+  once = λ n. omega (
+    arith,
+    counted (is_ask_of n) P s,
+    ap one_if (and_left (is_asked s) (number_of s == n) no_asking),
+    h.once n,
+  );
   own = omega (
     arith,
     unanswered_push P s no_answer,
@@ -203,7 +248,8 @@ numbered_other P s h l no_asking no_answer = record {
 }
 
 -- a link request draws the next number
-pub numbered_ask : (P : List Step) (seat : ℕ) (path : Name) (version : ℕ) (hit : Bool) → IsNumbered P
+pub numbered_ask : (P : List Step) (seat : ℕ) (path : Name) (version : ℕ) (hit : Bool)
+    → IsNumbered P
     → IsNumbered (P ++ Asked seat (requests P) path version hit ∷ [])
 numbered_ask P seat path version hit h =
     let s : Step = Asked seat (requests P) path version hit in
@@ -211,7 +257,14 @@ numbered_ask P seat path version hit h =
     record {
       below = below_push P s h.below (omega (arith, requests_push P s));
       once = λ n. once n (requests P == n) refl;
-      own = omega (arith, unanswered_push P s refl, ap one_if waits, counted is_answer P s, counted is_asked P s, h.own);
+      own = omega (
+        arith,
+        unanswered_push P s refl,
+        ap one_if waits,
+        counted is_answer P s,
+        counted is_asked P s,
+        h.own,
+      );
     }
   where
     once : (n : ℕ) (b : Bool) → (requests P == n) ≡ b
@@ -226,11 +279,17 @@ numbered_ask P seat path version hit h =
           fresh_count (requests P) P h.below,
         )
     once n false d =
-        omega (arith, counted (is_ask_of n) P (Asked seat (requests P) path version hit), ap one_if d, h.once n)
+        omega (
+          arith,
+          counted (is_ask_of n) P (Asked seat (requests P) path version hit),
+          ap one_if d,
+          h.once n,
+        )
 
 -- what waits before an answer, waits behind it or is answered by it
 one_less : (asked answered same here : Bool) → (same ≡ true → answered ≡ false) → here ≡ same
-    → one_if (asked && not (answered || (here || false))) + one_if (asked && same) ≡ one_if (asked && not answered)
+    → one_if (asked && not (answered || (here || false))) + one_if (asked && same)
+    ≡ one_if (asked && not answered)
 one_less false b e d f g = refl
 one_less true b true d f g = rw (g, f refl) refl
 one_less true true false d f g = refl
@@ -250,14 +309,19 @@ answers_one P seat n note un =
     omega (
       arith,
       sum_by_push (λ x. one_if (is_waiting (P ++ s ∷ []) x)) P s,
-      counts_add (λ x. one_if (is_waiting (P ++ s ∷ []) x)) (λ x. one_if (is_ask_of n x)) (λ x. one_if (is_waiting P x)) each P,
+      counts_add (λ x. one_if (is_waiting (P ++ s ∷ []) x)) (λ x. one_if (is_ask_of n x))
+          (λ x. one_if (is_waiting P x)) each P,
     )
   where
-    each : (x : Step) → one_if (is_waiting (P ++ Answered seat n note ∷ []) x) + one_if (is_ask_of n x) ≡ one_if (is_waiting P x)
+    each : (x : Step)
+        → one_if (is_waiting (P ++ Answered seat n note ∷ []) x) + one_if (is_ask_of n x)
+        ≡ one_if (is_waiting P x)
     each x =
-        ap (λ b. one_if (is_asked x && not b) + one_if (is_ask_of n x)) (answered_push P (Answered seat n note) (number_of x))
+        ap (λ b. one_if (is_asked x && not b) + one_if (is_ask_of n x))
+        (answered_push P (Answered seat n note) (number_of x))
         ∙ one_less (is_asked x) (is_answered P (number_of x)) (number_of x == n) (n == number_of x)
-        (λ e. ap (is_answered P) (let same : number_of x ≡ n = grind (arith, nat_tests, e) in same) ∙ un) (swapped (number_of x) n)
+        (λ e. ap (is_answered P) (let same : number_of x ≡ n = grind (arith, nat_tests, e) in same)
+        ∙ un) (swapped (number_of x) n)
 
 -- an answer takes the number of a link request that waits
 pub numbered_answer : (P : List Step) (a : Ask) (seat : ℕ) (note : Note) → IsNumbered P → IsOpen P a

@@ -64,34 +64,41 @@ use Rattle.hub_store.proofs.Kept.{all_kept, own_current, hit_answers, version_gr
 use Rattle.hub_store.proofs.Requests.{plain_push, told_push, below_same, request, book_le}
 use Rattle.hub_store.proofs.Tickets.{ticket_stays}
 
-pub facts_apart : (P : List Step) (space : Space) (book : List Placement) (items : List Item) → AreTold P space book items
+pub facts_apart : (P : List Step) (space : Space) (book : List Placement) (items : List Item)
+    → AreTold P space book items
     → AreApart (facts items)
 facts_apart P space book items t = subst AreApart (sym t.cache_is) (caches_are_apart P)
 
 -- ---- what is found in the cache
 
 -- whether there is a hit, as the record says it
-pub hit_told : (P : List Step) (space : Space) (book : List Placement) (items : List Item) (path : Name)
+pub hit_told : (P : List Step) (space : Space) (book : List Placement) (items : List Item)
+    (path : Name)
     → AreTold P space book items
-    → list_any (λ i. held.is_of path i && held.is_current space i) items ≡ is_hit (namespace_after P) (cache_after P) path
+    → list_any (λ i. held.is_of path i && held.is_current space i) items
+    ≡ is_hit (namespace_after P) (cache_after P) path
 hit_told P space book items path t =
     ap (λ ns. list_any (λ i. held.is_of path i && held.is_current ns i) items) t.space_is
     ∙ sym (any_fact (λ i. is_of path i && is_current (namespace_after P) i) items)
     ∙ ap (λ is. is_hit (namespace_after P) is path) t.cache_is
 
-pub record IsFoundAt (space : Space) (items : List Item) (path : Name) (n : ℕ) (i : Item) : Type 0 where
+pub record IsFoundAt (space : Space) (items : List Item) (path : Name) (n : ℕ)
+    (i : Item) : Type 0 where
   pub within : n < length items
   pub here : i ≡ get_or items n i
   pub of_path : held.is_of path i ≡ true
   pub current : held.is_current space i ≡ true
 
-pub found_at : (space : Space) (items : List Item) (path : Name) (n : ℕ) (i : Item) → n < length items
-    → i ≡ get_or items n i → (held.is_of path i && held.is_current space i) ≡ true → IsFoundAt space items path n i
+pub found_at : (space : Space) (items : List Item) (path : Name) (n : ℕ) (i : Item)
+    → n < length items
+    → i ≡ get_or items n i → (held.is_of path i && held.is_current space i) ≡ true
+    → IsFoundAt space items path n i
 found_at space items path n i l e t =
     let h = and_parts (held.is_of path i) (held.is_current space i) t in
     record { within = l; here = e; of_path = h.0; current = h.1 }
 
-kept_at : (P : List Step) (items : List Item) (n : ℕ) (i : Item) → All (IsKept P) items → n < length items
+kept_at : (P : List Step) (items : List Item) (n : ℕ) (i : Item) → All (IsKept P) items
+    → n < length items
     → i ≡ get_or items n i → IsKept P i
 kept_at P items n i all l e = subst (IsKept P) (sym e) (All-get_or (IsKept P) items n i l all)
 
@@ -100,7 +107,8 @@ found_kept : (P : List Step) (i : Item) → IsKept P i → held.is_current (name
     → IsKept P (held.as_found (version_after P) i)
 found_kept P i k e = record { read = k.read; asked = k.asked; current = e; found = omega arith }
 
-pub found_answers : (P : List Step) (space : Space) (book : List Placement) (items : List Item) (path : Name) (n : ℕ)
+pub found_answers : (P : List Step) (space : Space) (book : List Placement) (items : List Item)
+    (path : Name) (n : ℕ)
     (i : Item) (bytes : List ℕ) → AreTold P space book items → IsFoundAt space items path n i
     → answer i.image.footprint i.image.path i.image.base ≡ Ok bytes
     → answer (namespace_after P) path i.image.base ≡ Ok bytes
@@ -109,27 +117,35 @@ found_answers P space book items path n i bytes t f e =
     (ap (λ ns. held.is_current ns i) (sym t.space_is) ∙ f.current)
     (same_name-true path (held.path_of i) f.of_path) e
 
-pub after_hit : (limits : Limits) (P : List Step) (space : Space) (book : List Placement) (items : List Item) (seat : ℕ)
+pub after_hit : (limits : Limits) (P : List Step) (space : Space) (book : List Placement)
+    (items : List Item) (seat : ℕ)
     (path : Name) (n : ℕ) (i : Item) → IsStore limits P space book items → HasRoom limits.steps P
     → IsFoundAt space items path n i
-    → IsStore limits ((P ++ Asked seat (requests P) path (version_after P) true ∷ []) ++ Answered seat (requests P) (Image i.image.base) ∷ [])
+    → IsStore limits
+    ((P ++ Asked seat (requests P) path (version_after P) true ∷ [])
+    ++ Answered seat (requests P) (Image i.image.base) ∷ [])
     space book (held.as_found (version_after P) i ∷ remove items n)
 after_hit limits P space book items seat path n i st room f =
     let m : ℕ = requests P in
     let s : Step = Asked seat m path (version_after P) true in
     let a : Step = Answered seat m (Image i.image.base) in
-    let ask : Ask = record { seat = seat; number = m; path = path; version = version_after P; hit = true } in
+    let ask : Ask =
+    record { seat = seat; number = m; path = path; version = version_after P; hit = true } in
     let below = st.told.numbered.below in
-    let asked : ask_of (P ++ s ∷ []) m ≡ Some ask = ask_now P seat m path (version_after P) true (fresh_ask P m below) in
-    let waiting : IsOpen (P ++ s ∷ []) ask = record { asked = asked; waits = answered_same P s refl m ∙ fresh_answer P m below } in
+    let asked : ask_of (P ++ s ∷ []) m ≡ Some ask =
+    ask_now P seat m path (version_after P) true (fresh_ask P m below) in
+    let waiting : IsOpen (P ++ s ∷ []) ask =
+    record { asked = asked; waits = answered_same P s refl m ∙ fresh_answer P m below } in
     let apart = facts_apart P space book items st.told in
     let now = ap (λ ns. held.is_current ns i) (sym st.told.space_is) ∙ f.current in
     let hit : true ≡ is_hit (namespace_after P) (cache_after P) path =
     sym (list_any_at (λ (j : Item). held.is_of path j && held.is_current space j) items n i f.within
-    (ap (λ (j : Item). held.is_of path j && held.is_current space j) (sym f.here) ∙ ap (λ b. b && held.is_current space i) f.of_path ∙ f.current))
+    (ap (λ (j : Item). held.is_of path j && held.is_current space j) (sym f.here)
+    ∙ ap (λ b. b && held.is_current space i) f.of_path ∙ f.current))
     ∙ hit_told P space book items path st.told in
     let there : item_of path (cache_after P) ≡ Some (fact_of i) =
-    ap (item_of path) (sym st.told.cache_is) ∙ item_at_place path items n i apart f.within f.here f.of_path in
+    ap (item_of path) (sym st.told.cache_is)
+    ∙ item_at_place path items n i apart f.within f.here f.of_path in
     let front : item_of path (cache_after (P ++ s ∷ [])) ≡ Some (fact_of i) =
     ap (item_of path) (cache_push P s) ∙ front_item path (cache_after P) (fact_of i) there in
     let first = numbered_ask P seat path (version_after P) true st.told.numbered in
@@ -140,42 +156,64 @@ after_hit limits P space book items seat path n i st room f =
     (All-removed (IsKept P) items n st.told.kept) in
     let told : AreTold (P ++ s ∷ []) space book left =
     plain_push P space book items left s st.told refl refl
-    (touched path items n i (version_after P) apart f.within f.here f.of_path) (all_kept P (s ∷ []) left kept) first in
+    (touched path items n i (version_after P) apart f.within f.here f.of_path)
+    (all_kept P (s ∷ []) left kept) first in
     record {
-      legal = legal_push_two limits.cache limits.steps P s a st.legal (request limits.steps P room, refl, hit)
-          (due_push limits.cache P s ∙ ap (option_map (λ (x : CacheItem). Answered seat m (Image x.base))) front)
+      legal = legal_push_two limits.cache limits.steps P s a st.legal
+          (request limits.steps P room, refl, hit)
+          (due_push limits.cache P s
+          ∙ ap (option_map (λ (x : CacheItem). Answered seat m (Image x.base))) front)
           (due_push_two limits.cache P s a
-          ∙ ap (storing_for limits.cache (cache_after ((P ++ s ∷ []) ++ a ∷ [])) seat m) (ask_stays (P ++ s ∷ []) (a ∷ []) m ask asked));
+          ∙ ap (storing_for limits.cache (cache_after ((P ++ s ∷ []) ++ a ∷ [])) seat m)
+          (ask_stays (P ++ s ∷ []) (a ∷ []) m ask asked));
       told = plain_push (P ++ s ∷ []) space book left left a told refl refl refl
-          (all_kept (P ++ s ∷ []) (a ∷ []) left told.kept) (numbered_answer (P ++ s ∷ []) ask seat (Image i.image.base) first waiting);
-      fits = omega (arith, answered_fits limits.steps (P ++ s ∷ []) ask seat (Image i.image.base) (request_fits limits.steps P s room) waiting);
+          (all_kept (P ++ s ∷ []) (a ∷ []) left told.kept)
+          (numbered_answer (P ++ s ∷ []) ask seat (Image i.image.base) first waiting);
+      fits = omega (
+        arith,
+        answered_fits limits.steps (P ++ s ∷ []) ask seat (Image i.image.base)
+            (request_fits limits.steps P s room) waiting,
+      );
     }
 
 -- ---- placing
 
-pub ticket_room : (limits : Limits) (P : List Step) (space : Space) (book : List Placement) (items : List Item)
-    (t : TicketParts) → IsStore limits P space book items → IsTicket P t → length P + 3 ≤ limits.steps
+pub ticket_room : (limits : Limits) (P : List Step) (space : Space) (book : List Placement)
+    (items : List Item)
+    (t : TicketParts) → IsStore limits P space book items → IsTicket P t
+    → length P + 3 ≤ limits.steps
 ticket_room limits P space book items t st ticket =
     room_to_answer limits.steps P (asking_of t) st.fits ticket.here
 
-pub book_room : (limits : Limits) (P : List Step) (space : Space) (book : List Placement) (items : List Item)
-    (t : TicketParts) → IsStore limits P space book items → IsTicket P t → length book < limits.steps
+pub book_room : (limits : Limits) (P : List Step) (space : Space) (book : List Placement)
+    (items : List Item)
+    (t : TicketParts) → IsStore limits P space book items → IsTicket P t
+    → length book < limits.steps
 book_room limits P space book items t st ticket =
-    omega (arith, ticket_room limits P space book items t st ticket, ap length st.told.book_is, book_le P)
+    omega (
+      arith,
+      ticket_room limits P space book items t st ticket,
+      ap length st.told.book_is,
+      book_le P,
+    )
 
-ticket_below : (P : List Step) (t : TicketParts) → IsNumbered P → IsTicket P t → t.number < requests P
+ticket_below : (P : List Step) (t : TicketParts) → IsNumbered P → IsTicket P t
+    → t.number < requests P
 ticket_below P t h ticket = asked_below P (asking_of t) h ticket.here.asked
 
 -- the plan's place is that of its numbers
-place_of_plan : (P : List Step) (t : TicketParts) (r : Ready) (plan : Plan) (at : Place) → IsTicket P t
-    → IsPlanFor t r plan → place_for (book_of P) t.path r.layout.pages r.evaluated.lo r.evaluated.hi ≡ at
+place_of_plan : (P : List Step) (t : TicketParts) (r : Ready) (plan : Plan) (at : Place)
+    → IsTicket P t
+    → IsPlanFor t r plan → place_for (book_of P) t.path r.layout.pages r.evaluated.lo r.evaluated.hi
+    ≡ at
     → HasPlace P (asking_of t) plan at
 place_of_plan P t r plan at ticket p e = record {
   planned = ap (λ ns. plan_of ns t.path) (sym ticket.space) ∙ p.planned;
   place = (λ i. place_for (book_of P) t.path (sym p.pages i) (sym p.lo i) (sym p.hi i)) ∙ e;
 }
 
-pub after_placed : (limits : Limits) (P : List Step) (space : Space) (book : List Placement) (items : List Item)
+pub after_placed : (limits : Limits) (P : List Step) (space : Space) (book : List Placement)
+    (items : List Item)
     (t : TicketParts) (r : Ready) (base : ℕ) → IsStore limits P space book items → IsTicket P t
     → is_placed P t.number ≡ false → ((plan : Plan) × IsPlanFor t r plan)
     → place_for book t.path r.layout.pages r.evaluated.lo r.evaluated.hi ≡ place.New base
@@ -184,15 +222,19 @@ pub after_placed : (limits : Limits) (P : List Step) (space : Space) (book : Lis
 after_placed limits P space book items t r base st ticket un p e =
     let s : Step = Placed t.seat t.number t.path base r.layout.pages in
     let at = place_of_plan P t r p.0 (place.New base) ticket p.1
-    (ap (λ b. place_for b t.path r.layout.pages r.evaluated.lo r.evaluated.hi) (sym st.told.book_is) ∙ e) in
+    (ap (λ b. place_for b t.path r.layout.pages r.evaluated.lo r.evaluated.hi) (sym st.told.book_is)
+    ∙ e) in
     let number = below_same P s t.number (ticket_below P t st.told.numbered ticket) in
     record {
       legal = legal_push limits.cache limits.steps P s st.legal
           (t.version, p.0, ticket.here, un, at, sym p.1.pages) (due_push limits.cache P s);
       told = told_push P space space book _ items items s st.told
-          (st.told.space_is ∙ sym (namespace_same P s refl (version_after P)) ∙ ap (namespace_in (P ++ s ∷ [])) (sym (version_same P s refl)))
-          refl refl (all_kept P (s ∷ []) items st.told.kept) (numbered_other P s st.told.numbered number refl refl);
-      fits = placed_fits limits.steps P (asking_of t) t.seat t.path base r.layout.pages st.fits ticket.here un;
+          (st.told.space_is ∙ sym (namespace_same P s refl (version_after P))
+          ∙ ap (namespace_in (P ++ s ∷ [])) (sym (version_same P s refl)))
+          refl refl (all_kept P (s ∷ []) items st.told.kept)
+          (numbered_other P s st.told.numbered number refl refl);
+      fits = placed_fits limits.steps P (asking_of t) t.seat t.path base r.layout.pages st.fits
+          ticket.here un;
     }
 
 -- what was said of the place stays true in the record that comes of it
@@ -211,26 +253,33 @@ may_link (place.Held base) pages h = (h.0, (let l = h.1 in omega arith))
 may_link (place.New base) pages h = (h.0, (let l = h.1 in omega arith))
 may_link place.NoRoom pages h = tt
 
-ticket_then : (P : List Step) (t : TicketParts) (pages : ℕ) (at : Place) → IsTicket P t → IsTicket (P ++ placing t pages at) t
+ticket_then : (P : List Step) (t : TicketParts) (pages : ℕ) (at : Place) → IsTicket P t
+    → IsTicket (P ++ placing t pages at) t
 ticket_then P t pages (place.Held base) h = subst (λ Q. IsTicket Q t) (sym (append-nil P)) h
 ticket_then P t pages place.NoRoom h = subst (λ Q. IsTicket Q t) (sym (append-nil P)) h
-ticket_then P t pages (place.New base) h = ticket_stays P (Placed t.seat t.number t.path base pages) t h refl
+ticket_then P t pages (place.New base) h =
+    ticket_stays P (Placed t.seat t.number t.path base pages) t h refl
 
-pub place_given : (old new : StoreParts) (t : TicketParts) (r : Ready) (at : Place) (reply : PlaceReply)
-    → place_in old.steps t r ≡ at → reply ≡ place_reply at → Appended old new (placing t r.layout.pages at)
+pub place_given : (old new : StoreParts) (t : TicketParts) (r : Ready) (at : Place)
+    (reply : PlaceReply)
+    → place_in old.steps t r ≡ at → reply ≡ place_reply at
+    → Appended old new (placing t r.layout.pages at)
     → IsTicket old.steps t → Stands at r.layout.pages → PlaceGives old t r reply new
 place_given old new t r at reply e is n ticket stands = record {
   reply_is = is ∙ ap place_reply (sym e);
   steps = n ∙ ap (λ a. record old { steps = old.steps ++ placing t r.layout.pages a }) (sym e);
-  stands = ap (λ (s : StoreParts). place_in s.steps t r) n ∙ stands_then old.steps t r at e ∙ ap place_then (sym is);
-  ticket = subst (λ (s : StoreParts). IsTicket s.steps t) (sym n) (ticket_then old.steps t r.layout.pages at ticket);
+  stands = ap (λ (s : StoreParts). place_in s.steps t r) n ∙ stands_then old.steps t r at e
+      ∙ ap place_then (sym is);
+  ticket = subst (λ (s : StoreParts). IsTicket s.steps t) (sym n)
+      (ticket_then old.steps t r.layout.pages at ticket);
   links = subst (λ p. MayLink p r.layout.pages) (sym is) (may_link at r.layout.pages stands);
 }
 
 -- ---- ending
 
 -- an image that may end a link request does so by its answer
-pub image_may_end : (P : List Step) (t : TicketParts) (l : LinkedImage) (plan : Plan) → IsTicket P t → IsImageFor P t l plan
+pub image_may_end : (P : List Step) (t : TicketParts) (l : LinkedImage) (plan : Plan) → IsTicket P t
+    → IsImageFor P t l plan
     → answer l.footprint l.path l.base ≡ Ok l.bytes → MayEnd P (asking_of t) (Image l.base)
 image_may_end P t l plan ticket image is =
     let own = own_frame_law t.space t.path l.footprint image.listed in (
@@ -241,7 +290,8 @@ image_may_end P t l plan ticket image is =
           ∙ ap (λ p. answer l.footprint p l.base) (sym image.path) ∙ is,
     )
 
-plain_due : (c : ℕ) (P : List Step) (seat n : ℕ) (x : Note) → IsPlain x → due c (P ++ Answered seat n x ∷ []) ≡ None
+plain_due : (c : ℕ) (P : List Step) (seat n : ℕ) (x : Note) → IsPlain x
+    → due c (P ++ Answered seat n x ∷ []) ≡ None
 plain_due c P seat n (Image base) p = absurd p
 plain_due c P seat n (note.Refused x) p = due_push c P (Answered seat n (note.Refused x))
 plain_due c P seat n note.NoMemory p = due_push c P (Answered seat n note.NoMemory)
@@ -251,30 +301,39 @@ answered_numbers : (P : List Step) (t : TicketParts) (x : Note) → IsNumbered P
     → IsNumbered (P ++ Answered t.seat t.number x ∷ [])
 answered_numbers P t x h ticket = numbered_answer P (asking_of t) t.seat x h ticket.here
 
-answered_told : (P : List Step) (space : Space) (book : List Placement) (items : List Item) (t : TicketParts) (x : Note)
-    → AreTold P space book items → IsTicket P t → AreTold (P ++ Answered t.seat t.number x ∷ []) space book items
+answered_told : (P : List Step) (space : Space) (book : List Placement) (items : List Item)
+    (t : TicketParts) (x : Note)
+    → AreTold P space book items → IsTicket P t
+    → AreTold (P ++ Answered t.seat t.number x ∷ []) space book items
 answered_told P space book items t x told ticket =
     plain_push P space book items items (Answered t.seat t.number x) told refl refl refl
-    (all_kept P (Answered t.seat t.number x ∷ []) items told.kept) (answered_numbers P t x told.numbered ticket)
+    (all_kept P (Answered t.seat t.number x ∷ []) items told.kept)
+    (answered_numbers P t x told.numbered ticket)
 
 -- an answer after which nothing is due
-after_answer : (limits : Limits) (P : List Step) (space : Space) (book : List Placement) (items : List Item)
-    (t : TicketParts) (x : Note) → IsStore limits P space book items → IsTicket P t → MayEnd P (asking_of t) x
+after_answer : (limits : Limits) (P : List Step) (space : Space) (book : List Placement)
+    (items : List Item)
+    (t : TicketParts) (x : Note) → IsStore limits P space book items → IsTicket P t
+    → MayEnd P (asking_of t) x
     → due limits.cache (P ++ Answered t.seat t.number x ∷ []) ≡ None
     → IsStore limits (P ++ Answered t.seat t.number x ∷ []) space book items
 after_answer limits P space book items t x st ticket may none =
     let fits = answered_fits limits.steps P (asking_of t) t.seat x st.fits ticket.here in
     record {
-      legal = legal_push limits.cache limits.steps P (Answered t.seat t.number x) st.legal (t.path, t.version, ticket.here, may) none;
+      legal = legal_push limits.cache limits.steps P (Answered t.seat t.number x) st.legal
+          (t.path, t.version, ticket.here, may) none;
       told = answered_told P space book items t x st.told ticket;
       fits = omega arith;
     }
 
-pub after_plain : (limits : Limits) (P : List Step) (space : Space) (book : List Placement) (items : List Item)
-    (t : TicketParts) (x : Note) → IsStore limits P space book items → IsTicket P t → MayEnd P (asking_of t) x → IsPlain x
+pub after_plain : (limits : Limits) (P : List Step) (space : Space) (book : List Placement)
+    (items : List Item)
+    (t : TicketParts) (x : Note) → IsStore limits P space book items → IsTicket P t
+    → MayEnd P (asking_of t) x → IsPlain x
     → IsStore limits (P ++ Answered t.seat t.number x ∷ []) space book items
 after_plain limits P space book items t x st ticket may plain =
-    after_answer limits P space book items t x st ticket may (plain_due limits.cache P t.seat t.number x plain)
+    after_answer limits P space book items t x st ticket may
+    (plain_due limits.cache P t.seat t.number x plain)
 
 pub plain_ending : (c : ℕ) (P : List Step) (t : TicketParts) (x : Note) → IsPlain x
     → ending c P t x ≡ Answered t.seat t.number x ∷ []
@@ -282,24 +341,31 @@ plain_ending c P t x plain =
     ap (λ ds. Answered t.seat t.number x ∷ ds)
     (dues_none c (P ++ Answered t.seat t.number x ∷ []) (plain_due c P t.seat t.number x plain))
 
-image_due : (c : ℕ) (P : List Step) (space : Space) (book : List Placement) (items : List Item) (t : TicketParts) (base : ℕ)
+image_due : (c : ℕ) (P : List Step) (space : Space) (book : List Placement) (items : List Item)
+    (t : TicketParts) (base : ℕ)
     → AreTold P space book items → IsTicket P t
-    → due c (P ++ Answered t.seat t.number (Image base) ∷ []) ≡ storing c (facts items) t.seat t.number t.path t.version
+    → due c (P ++ Answered t.seat t.number (Image base) ∷ [])
+    ≡ storing c (facts items) t.seat t.number t.path t.version
 image_due c P space book items t base told ticket =
     let a : Step = Answered t.seat t.number (Image base) in
     due_push c P a
-    ∙ ap (λ is. storing_for c is t.seat t.number (ask_of (P ++ a ∷ []) t.number)) (cache_push P a ∙ sym told.cache_is)
-    ∙ ap (storing_for c (facts items) t.seat t.number) (ask_stays P (a ∷ []) t.number (asking_of t) ticket.here.asked)
+    ∙ ap (λ is. storing_for c is t.seat t.number (ask_of (P ++ a ∷ []) t.number))
+    (cache_push P a ∙ sym told.cache_is)
+    ∙ ap (storing_for c (facts items) t.seat t.number)
+    (ask_stays P (a ∷ []) t.number (asking_of t) ticket.here.asked)
 
-pub after_unstored : (limits : Limits) (P : List Step) (space : Space) (book : List Placement) (items : List Item)
-    (t : TicketParts) (base : ℕ) → IsStore limits P space book items → IsTicket P t → MayEnd P (asking_of t) (Image base)
+pub after_unstored : (limits : Limits) (P : List Step) (space : Space) (book : List Placement)
+    (items : List Item)
+    (t : TicketParts) (base : ℕ) → IsStore limits P space book items → IsTicket P t
+    → MayEnd P (asking_of t) (Image base)
     → storing limits.cache (facts items) t.seat t.number t.path t.version ≡ None
     → IsStore limits (P ++ Answered t.seat t.number (Image base) ∷ []) space book items
 after_unstored limits P space book items t base st ticket may none =
     after_answer limits P space book items t (Image base) st ticket may
     (image_due limits.cache P space book items t base st.told ticket ∙ none)
 
-pub unstored_ending : (limits : Limits) (P : List Step) (space : Space) (book : List Placement) (items : List Item)
+pub unstored_ending : (limits : Limits) (P : List Step) (space : Space) (book : List Placement)
+    (items : List Item)
     (t : TicketParts) (base : ℕ) → IsStore limits P space book items → IsTicket P t
     → storing limits.cache (facts items) t.seat t.number t.path t.version ≡ None
     → ending limits.cache P t (Image base) ≡ Answered t.seat t.number (Image base) ∷ []
@@ -320,25 +386,39 @@ base_now P more seat n base un =
 abbrev pub item_for : TicketParts → LinkedImage → Item
 item_for t l = record { number = t.number; version = t.version; current_at = t.version; image = l }
 
-listed_later : (P more : List Step) (t : TicketParts) (l : LinkedImage) → IsTicket P t → footprint t.space t.path ≡ Some l.footprint
+listed_later : (P more : List Step) (t : TicketParts) (l : LinkedImage) → IsTicket P t
+    → footprint t.space t.path ≡ Some l.footprint
     → footprint (namespace_in (P ++ more) t.version) t.path ≡ Some l.footprint
 listed_later P more t l ticket listed =
-    ap (λ ns. footprint ns t.path) (namespace_stays P more t.version ticket.within ∙ sym ticket.space) ∙ listed
+    ap (λ ns. footprint ns t.path) (namespace_stays P more t.version ticket.within
+    ∙ sym ticket.space) ∙ listed
 
-item_told : (P more : List Step) (t : TicketParts) (l : LinkedImage) (plan : Plan) → IsTicket P t → IsImageFor P t l plan
-    → fact_of (item_for t l) ≡ stored_item ((P ++ Answered t.seat t.number (Image l.base) ∷ []) ++ more) (asking_of t)
+item_told : (P more : List Step) (t : TicketParts) (l : LinkedImage) (plan : Plan) → IsTicket P t
+    → IsImageFor P t l plan
+    → fact_of (item_for t l)
+    ≡ stored_item ((P ++ Answered t.seat t.number (Image l.base) ∷ []) ++ more) (asking_of t)
 item_told P more t l plan ticket image =
     let a : Step = Answered t.seat t.number (Image l.base) in
-    let listed = ap (λ o. unwrap_or o []) (ap (λ Q. footprint (namespace_in Q t.version) t.path) (append_assoc P (a ∷ []) more)
+    let listed =
+    ap (λ o. unwrap_or o [])
+    (ap (λ Q. footprint (namespace_in Q t.version) t.path) (append_assoc P (a ∷ []) more)
     ∙ listed_later P (a ∷ more) t l ticket image.listed) in
     let base = base_now P more t.seat t.number l.base ticket.here.waits in
-    λ i. record { number = t.number; path = image.path i; version = t.version; footprint = sym listed i; base = sym base i }
+    λ i. record {
+      number = t.number;
+      path = image.path i;
+      version = t.version;
+      footprint = sym listed i;
+      base = sym base i;
+    }
 
-item_kept : (P more : List Step) (t : TicketParts) (l : LinkedImage) (plan : Plan) → IsTicket P t → IsImageFor P t l plan
+item_kept : (P more : List Step) (t : TicketParts) (l : LinkedImage) (plan : Plan) → IsTicket P t
+    → IsImageFor P t l plan
     → IsKept (P ++ more) (item_for t l)
 item_kept P more t l plan ticket image =
     let read : footprint (namespace_in (P ++ more) t.version) l.path ≡ Some l.footprint =
-    ap (footprint (namespace_in (P ++ more) t.version)) image.path ∙ listed_later P more t l ticket image.listed in
+    ap (footprint (namespace_in (P ++ more) t.version)) image.path
+    ∙ listed_later P more t l ticket image.listed in
     record {
       read = read;
       asked = omega (arith, ticket.within, version_grows P more);
@@ -347,11 +427,16 @@ item_kept P more t l plan ticket image =
     }
 
 -- an item that is stored without another that goes for it
-pub after_stored : (limits : Limits) (P : List Step) (space : Space) (book : List Placement) (items : List Item)
-    (t : TicketParts) (l : LinkedImage) (plan : Plan) → IsStore limits P space book items → IsTicket P t
+pub after_stored : (limits : Limits) (P : List Step) (space : Space) (book : List Placement)
+    (items : List Item)
+    (t : TicketParts) (l : LinkedImage) (plan : Plan) → IsStore limits P space book items
+    → IsTicket P t
     → IsImageFor P t l plan → MayEnd P (asking_of t) (Image l.base)
-    → storing limits.cache (facts items) t.seat t.number t.path t.version ≡ Some (Stored t.seat t.number t.path t.version)
-    → IsStore limits ((P ++ Answered t.seat t.number (Image l.base) ∷ []) ++ Stored t.seat t.number t.path t.version ∷ [])
+    → storing limits.cache (facts items) t.seat t.number t.path t.version
+    ≡ Some (Stored t.seat t.number t.path t.version)
+    → IsStore limits
+    ((P ++ Answered t.seat t.number (Image l.base) ∷ []) ++ Stored t.seat t.number t.path
+    t.version ∷ [])
     space book (item_for t l ∷ held.without l.path items)
 after_stored limits P space book items t l plan st ticket image may due_is =
     let a : Step = Answered t.seat t.number (Image l.base) in
@@ -359,32 +444,44 @@ after_stored limits P space book items t l plan st ticket image may due_is =
     let Q : List Step = P ++ a ∷ [] in
     let told = answered_told P space book items t (Image l.base) st.told ticket in
     let left : List Item = item_for t l ∷ held.without l.path items in
-    let number = below_same Q s t.number (below_same P a t.number (ticket_below P t st.told.numbered ticket)) in
+    let number =
+    below_same Q s t.number
+    (below_same P a t.number (ticket_below P t st.told.numbered ticket)) in
     let cache : facts left ≡ stored_item Q (asking_of t) ∷ without t.path (facts items) =
-    ap (λ i. i ∷ facts (held.without l.path items)) (item_told P [] t l plan ticket image ∙ ap (λ R. stored_item R (asking_of t)) (append-nil Q))
-    ∙ ap (λ is. stored_item Q (asking_of t) ∷ is) (facts_without l.path items ∙ ap (λ p. without p (facts items)) image.path) in
+    ap (λ i. i ∷ facts (held.without l.path items)) (item_told P [] t l plan ticket image
+    ∙ ap (λ R. stored_item R (asking_of t)) (append-nil Q))
+    ∙ ap (λ is. stored_item Q (asking_of t) ∷ is) (facts_without l.path items
+    ∙ ap (λ p. without p (facts items)) image.path) in
     let kept : All (IsKept (Q ++ s ∷ [])) left =
     All-cons (IsKept (Q ++ s ∷ [])) (item_for t l) (held.without l.path items)
-    (subst (λ R. IsKept R (item_for t l)) (sym (append_assoc P (a ∷ []) (s ∷ []))) (item_kept P (a ∷ s ∷ []) t l plan ticket image))
+    (subst (λ R. IsKept R (item_for t l)) (sym (append_assoc P (a ∷ []) (s ∷ [])))
+    (item_kept P (a ∷ s ∷ []) t l plan ticket image))
     (All-without (IsKept (Q ++ s ∷ [])) l.path items (all_kept Q (s ∷ []) items told.kept)) in
-    let fits = answered_fits limits.steps P (asking_of t) t.seat (Image l.base) st.fits ticket.here in
+    let fits =
+    answered_fits limits.steps P (asking_of t) t.seat (Image l.base) st.fits ticket.here in
     record {
-      legal = legal_push_two limits.cache limits.steps P a s st.legal (t.path, t.version, ticket.here, may)
-          (image_due limits.cache P space book items t l.base st.told ticket ∙ due_is) (due_push_two limits.cache P a s);
-      told = plain_push Q space book items left s told refl refl cache kept (numbered_other Q s told.numbered number refl refl);
+      legal = legal_push_two limits.cache limits.steps P a s st.legal
+          (t.path, t.version, ticket.here, may)
+          (image_due limits.cache P space book items t l.base st.told ticket ∙ due_is)
+          (due_push_two limits.cache P a s);
+      told = plain_push Q space book items left s told refl refl cache kept
+          (numbered_other Q s told.numbered number refl refl);
       fits = other_fits 0 limits.steps Q s refl (omega arith);
     }
 
-pub stored_ending : (limits : Limits) (P : List Step) (space : Space) (book : List Placement) (items : List Item)
+pub stored_ending : (limits : Limits) (P : List Step) (space : Space) (book : List Placement)
+    (items : List Item)
     (t : TicketParts) (base : ℕ) → IsStore limits P space book items → IsTicket P t
-    → storing limits.cache (facts items) t.seat t.number t.path t.version ≡ Some (Stored t.seat t.number t.path t.version)
+    → storing limits.cache (facts items) t.seat t.number t.path t.version
+    ≡ Some (Stored t.seat t.number t.path t.version)
     → ending limits.cache P t (Image base)
     ≡ Answered t.seat t.number (Image base) ∷ Stored t.seat t.number t.path t.version ∷ []
 stored_ending limits P space book items t base st ticket due_is =
     let a : Step = Answered t.seat t.number (Image base) in
     let s : Step = Stored t.seat t.number t.path t.version in
     ap (λ ds. a ∷ ds) (dues_one limits.cache (P ++ a ∷ []) s
-    (image_due limits.cache P space book items t base st.told ticket ∙ due_is) (due_push_two limits.cache P a s))
+    (image_due limits.cache P space book items t base st.told ticket ∙ due_is)
+    (due_push_two limits.cache P a s))
 
 stored_next : (c : ℕ) (P : List Step) (t : TicketParts) (base : ℕ) (last : Name) → IsTicket P t
     → due c ((P ++ Answered t.seat t.number (Image base) ∷ []) ++ Evicted t.seat t.number last ∷ [])
@@ -394,14 +491,20 @@ stored_next c P t base last ticket =
     let e : Step = Evicted t.seat t.number last in
     due_push_two c P a e
     ∙ ap (option_map (λ (x : Ask). Stored t.seat t.number x.path x.version))
-    (ask_stays (P ++ a ∷ []) (e ∷ []) t.number (asking_of t) (ask_stays P (a ∷ []) t.number (asking_of t) ticket.here.asked))
+    (ask_stays (P ++ a ∷ []) (e ∷ []) t.number (asking_of t)
+    (ask_stays P (a ∷ []) t.number (asking_of t) ticket.here.asked))
 
 -- an item that is stored in place of the last one
-pub after_evicting : (limits : Limits) (P : List Step) (space : Space) (book : List Placement) (items : List Item)
-    (t : TicketParts) (l : LinkedImage) (plan : Plan) (last : Name) → IsStore limits P space book items → IsTicket P t
+pub after_evicting : (limits : Limits) (P : List Step) (space : Space) (book : List Placement)
+    (items : List Item)
+    (t : TicketParts) (l : LinkedImage) (plan : Plan) (last : Name)
+    → IsStore limits P space book items → IsTicket P t
     → IsImageFor P t l plan → MayEnd P (asking_of t) (Image l.base)
-    → storing limits.cache (facts items) t.seat t.number t.path t.version ≡ Some (Evicted t.seat t.number last)
-    → IsStore limits (((P ++ Answered t.seat t.number (Image l.base) ∷ []) ++ Evicted t.seat t.number last ∷ []) ++ Stored t.seat t.number t.path t.version ∷ [])
+    → storing limits.cache (facts items) t.seat t.number t.path t.version
+    ≡ Some (Evicted t.seat t.number last)
+    → IsStore limits
+    (((P ++ Answered t.seat t.number (Image l.base) ∷ []) ++ Evicted t.seat t.number last ∷ [])
+    ++ Stored t.seat t.number t.path t.version ∷ [])
     space book (item_for t l ∷ held.without l.path (held.without last items))
 after_evicting limits P space book items t l plan last st ticket image may due_is =
     let a : Step = Answered t.seat t.number (Image l.base) in
@@ -420,28 +523,38 @@ after_evicting limits P space book items t l plan last st ticket image may due_i
     let number = below_same R s t.number (below_same Q e t.number below) in
     let cache : facts left ≡ stored_item R (asking_of t) ∷ without t.path (facts rest) =
     ap (λ i. i ∷ facts (held.without l.path rest)) (item_told P (e ∷ []) t l plan ticket image)
-    ∙ ap (λ is. stored_item R (asking_of t) ∷ is) (facts_without l.path rest ∙ ap (λ p. without p (facts rest)) image.path) in
+    ∙ ap (λ is. stored_item R (asking_of t) ∷ is) (facts_without l.path rest
+    ∙ ap (λ p. without p (facts rest)) image.path) in
     let kept : All (IsKept (R ++ s ∷ [])) left =
     All-cons (IsKept (R ++ s ∷ [])) (item_for t l) (held.without l.path rest)
-    (subst (λ X. IsKept X (item_for t l)) (sym (append_assoc Q (e ∷ []) (s ∷ []) ∙ append_assoc P (a ∷ []) (e ∷ s ∷ []))) (item_kept P (a ∷ e ∷ s ∷ []) t l plan ticket image))
+    (subst (λ X. IsKept X (item_for t l))
+    (sym (append_assoc Q (e ∷ []) (s ∷ []) ∙ append_assoc P (a ∷ []) (e ∷ s ∷ [])))
+    (item_kept P (a ∷ e ∷ s ∷ []) t l plan ticket image))
     (All-without (IsKept (R ++ s ∷ [])) l.path rest (all_kept R (s ∷ []) rest after.kept)) in
-    let fits = answered_fits limits.steps P (asking_of t) t.seat (Image l.base) st.fits ticket.here in
+    let fits =
+    answered_fits limits.steps P (asking_of t) t.seat (Image l.base) st.fits ticket.here in
     record {
-      legal = legal_push_three limits.cache limits.steps P a e s st.legal (t.path, t.version, ticket.here, may)
+      legal = legal_push_three limits.cache limits.steps P a e s st.legal
+          (t.path, t.version, ticket.here, may)
           (image_due limits.cache P space book items t l.base st.told ticket ∙ due_is)
           (stored_next limits.cache P t l.base last ticket) (due_push_two limits.cache Q e s);
-      told = plain_push R space book rest left s after refl refl cache kept (numbered_other R s after.numbered number refl refl);
+      told = plain_push R space book rest left s after refl refl cache kept
+          (numbered_other R s after.numbered number refl refl);
       fits = other_fits 0 limits.steps R s refl (other_fits 1 limits.steps Q e refl fits);
     }
 
-pub evicting_ending : (limits : Limits) (P : List Step) (space : Space) (book : List Placement) (items : List Item)
+pub evicting_ending : (limits : Limits) (P : List Step) (space : Space) (book : List Placement)
+    (items : List Item)
     (t : TicketParts) (base : ℕ) (last : Name) → IsStore limits P space book items → IsTicket P t
-    → storing limits.cache (facts items) t.seat t.number t.path t.version ≡ Some (Evicted t.seat t.number last)
+    → storing limits.cache (facts items) t.seat t.number t.path t.version
+    ≡ Some (Evicted t.seat t.number last)
     → ending limits.cache P t (Image base)
-    ≡ Answered t.seat t.number (Image base) ∷ Evicted t.seat t.number last ∷ Stored t.seat t.number t.path t.version ∷ []
+    ≡ Answered t.seat t.number (Image base) ∷ Evicted t.seat t.number last
+    ∷ Stored t.seat t.number t.path t.version ∷ []
 evicting_ending limits P space book items t base last st ticket due_is =
     let a : Step = Answered t.seat t.number (Image base) in
     let e : Step = Evicted t.seat t.number last in
     let s : Step = Stored t.seat t.number t.path t.version in
     ap (λ ds. a ∷ ds) (dues_two limits.cache (P ++ a ∷ []) e s
-    (image_due limits.cache P space book items t base st.told ticket ∙ due_is) (stored_next limits.cache P t base last ticket))
+    (image_due limits.cache P space book items t base st.told ticket ∙ due_is)
+    (stored_next limits.cache P t base last ticket))

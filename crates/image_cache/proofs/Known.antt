@@ -19,13 +19,16 @@ pub stay_is_stand : (since : List ℕ) (ns : Space) (xs : List Stamped) → All 
     ≡ list_all (λ s. is_stamp (stamp_at ns s.path) s.stamp) xs
 stay_is_stand since ns [] a = refl
 stay_is_stand since ns (x ∷ xs) a =
-    go (is_listed since x.path) (is_stamp (stamp_at ns x.path) x.stamp) (All-head (Stays since ns) x xs a)
+    go (is_listed since x.path) (is_stamp (stamp_at ns x.path) x.stamp)
+    (All-head (Stays since ns) x xs a)
     (stay_is_stand since ns xs (All-tail (Stays since ns) x xs a))
   where
     go : (b d : Bool) → (b ≡ false → d ≡ true)
         → list_all (λ s. not (is_listed since s.path) || is_stamp (stamp_at ns s.path) s.stamp) xs
         ≡ list_all (λ s. is_stamp (stamp_at ns s.path) s.stamp) xs
-        → ((not b || d) && list_all (λ s. not (is_listed since s.path) || is_stamp (stamp_at ns s.path) s.stamp) xs)
+        → ((not b || d)
+        && list_all (λ s. not (is_listed since s.path) || is_stamp (stamp_at ns s.path) s.stamp)
+        xs)
         ≡ (d && list_all (λ s. is_stamp (stamp_at ns s.path) s.stamp) xs)
     go true d h i = ap (λ b. d && b) i
     go false true h i = i
@@ -35,7 +38,8 @@ none_listed : (since : List ℕ) (path : Name) → length since ≡ 0 → is_lis
 none_listed [] path e = refl
 none_listed (k ∷ ks) path e = absurd (omega (arith, e))
 
-pub nothing_since : (since : List ℕ) (ns : Space) (xs : List Stamped) → length since ≡ 0 → All (Stays since ns) xs
+pub nothing_since : (since : List ℕ) (ns : Space) (xs : List Stamped) → length since ≡ 0
+    → All (Stays since ns) xs
     → list_all (λ s. is_stamp (stamp_at ns s.path) s.stamp) xs ≡ true
 nothing_since since ns [] e a = refl
 nothing_since since ns (x ∷ xs) e a =

@@ -30,15 +30,18 @@ none_in p (x ∷ xs) h =
     let e : same_name p x.path ≡ false = sym (is_eq-name_cmp p x.path) ∙ ap is_eq h.0 in
     rw e (none_in p xs h.1)
 
-look_up-front : (p : Name) (ys zs : Space) → Above p (paths zs) → look_up (ys ++ zs) p ≡ look_up ys p
+look_up-front : (p : Name) (ys zs : Space) → Above p (paths zs)
+    → look_up (ys ++ zs) p ≡ look_up ys p
 look_up-front p [] zs h = none_in p zs h
-look_up-front p (y ∷ ys) zs h = ap (λ o. cond (same_name p y.path) (Some y) o) (look_up-front p ys zs h)
+look_up-front p (y ∷ ys) zs h =
+    ap (λ o. cond (same_name p y.path) (Some y) o) (look_up-front p ys zs h)
 
 pub look_up-between : (p : Name) (xs ys zs : Space) → Below p xs → Above p (paths zs)
     → look_up (xs ++ (ys ++ zs)) p ≡ look_up ys p
 look_up-between p [] ys zs b a = look_up-front p ys zs a
 look_up-between p (x ∷ xs) ys zs b a =
-    let e : same_name p x.path ≡ false = sym (is_eq-name_cmp p x.path) ∙ ap is_eq (turned x.path p Less b.0) in
+    let e : same_name p x.path ≡ false = sym (is_eq-name_cmp p x.path)
+    ∙ ap is_eq (turned x.path p Less b.0) in
     rw e (look_up-between p xs ys zs b.1 a)
 
 with_entry-first : (s : Stamped) (zs : Space) → Above s.path (paths zs) → with_entry zs s ≡ s ∷ zs
@@ -57,7 +60,8 @@ with_entry-front s (y ∷ ys) zs a = go (name_cmp s.path y.path) (with_entry-fro
     go Equal i = refl
     go Greater i = ap (λ l. y ∷ l) i
 
-pub with_entry-between : (s : Stamped) (xs ys zs : Space) → Below s.path xs → Above s.path (paths zs)
+pub with_entry-between : (s : Stamped) (xs ys zs : Space) → Below s.path xs
+    → Above s.path (paths zs)
     → with_entry (xs ++ (ys ++ zs)) s ≡ xs ++ (with_entry ys s ++ zs)
 with_entry-between s [] ys zs b a = with_entry-front s ys zs a
 with_entry-between s (x ∷ xs) ys zs b a =
@@ -67,11 +71,13 @@ with_entry-between s (x ∷ xs) ys zs b a =
 place-front : (p : Name) (ys zs : Space) → Above p (paths zs) → place (ys ++ zs) p ≡ place ys p
 place-front p [] [] a = refl
 place-front p [] (z ∷ zs) a = rw a.0 refl
-place-front p (y ∷ ys) zs a = ap (λ n. match_ordering (name_cmp p y.path) 0 0 (suc n)) (place-front p ys zs a)
+place-front p (y ∷ ys) zs a =
+    ap (λ n. match_ordering (name_cmp p y.path) 0 0 (suc n)) (place-front p ys zs a)
 
 pub place-between : (p : Name) (xs ys zs : Space) → Below p xs → Above p (paths zs)
     → place (xs ++ (ys ++ zs)) p ≡ length xs + place ys p
-place-between p [] ys zs b a = let i : place (ys ++ zs) p ≡ place ys p = place-front p ys zs a in omega (arith, i)
+place-between p [] ys zs b a = let i : place (ys ++ zs) p ≡ place ys p =
+    place-front p ys zs a in omega (arith, i)
 place-between p (x ∷ xs) ys zs b a =
     let e : name_cmp p x.path ≡ Greater = turned x.path p Less b.0 in
     let i : place (xs ++ (ys ++ zs)) p ≡ length xs + place ys p = place-between p xs ys zs b.1 a in
@@ -83,16 +89,19 @@ pub look_up-part : (ps : List Space) (p : Name) → AreSome ps → IsInOrder (jo
     → look_up (joined ps) p ≡ look_up (get_or ps (part_at ps p) []) p
 look_up-part ps p f o =
     ap (λ l. look_up l p) (joined-split ps (part_at ps p))
-    ∙ look_up-between p (joined (take (part_at ps p) ps)) (get_or ps (part_at ps p) []) (joined (drop (suc (part_at ps p)) ps)) (before-part p ps f o) (after-part p ps f o)
+    ∙ look_up-between p (joined (take (part_at ps p) ps)) (get_or ps (part_at ps p) [])
+    (joined (drop (suc (part_at ps p)) ps)) (before-part p ps f o) (after-part p ps f o)
 
 pub in_order-part : (ps : List Space) (k : ℕ) → IsInOrder (joined ps) → IsInOrder (get_or ps k [])
 in_order-part ps k o =
     in_order-left (get_or ps k []) (joined (drop (suc k) ps))
-    (in_order-right (joined (take k ps)) (get_or ps k [] ++ joined (drop (suc k) ps)) (subst IsInOrder (joined-split ps k) o))
+    (in_order-right (joined (take k ps)) (get_or ps k [] ++ joined (drop (suc k) ps))
+    (subst IsInOrder (joined-split ps k) o))
 
 pub joined-append : (ps qs : List Space) → joined (ps ++ qs) ≡ joined ps ++ joined qs
 joined-append [] qs = refl
-joined-append (p ∷ ps) qs = ap (λ l. p ++ l) (joined-append ps qs) ∙ sym (append_assoc p (joined ps) (joined qs))
+joined-append (p ∷ ps) qs = ap (λ l. p ++ l) (joined-append ps qs)
+    ∙ sym (append_assoc p (joined ps) (joined qs))
 
 pub joined-parted : (xs : Space) → joined (parted xs) ≡ xs
 joined-parted xs = go (length xs == 65)
@@ -108,9 +117,11 @@ joined-with ps s f o =
     let page = get_or ps at [] in
     let rest = drop (suc at) ps in
     joined-append (take at ps ++ parted (with_entry page s)) rest
-    ∙ ap (λ l. l ++ joined rest) (joined-append (take at ps) (parted (with_entry page s)) ∙ ap (λ l. joined (take at ps) ++ l) (joined-parted (with_entry page s)))
+    ∙ ap (λ l. l ++ joined rest) (joined-append (take at ps) (parted (with_entry page s))
+    ∙ ap (λ l. joined (take at ps) ++ l) (joined-parted (with_entry page s)))
     ∙ append_assoc (joined (take at ps)) (with_entry page s) (joined rest)
-    ∙ sym (with_entry-between s (joined (take at ps)) page (joined rest) (before-part s.path ps f o) (after-part s.path ps f o))
+    ∙ sym (with_entry-between s (joined (take at ps)) page (joined rest) (before-part s.path ps f o)
+    (after-part s.path ps f o))
     ∙ ap (λ l. with_entry l s) (sym (joined-split ps at))
 
 pub joined-past : (ps : List Space) (p : Name) → length ps ≤ part_at ps p → joined ps ≡ []
@@ -121,17 +132,20 @@ joined-past (x ∷ xs) p h =
 
 -- ---- branches
 
-pub map-take : {X Y : Type 0} (f : X → Y) (k : ℕ) (xs : List X) → take k (map f xs) ≡ map f (take k xs)
+pub map-take : {X Y : Type 0} (f : X → Y) (k : ℕ) (xs : List X)
+    → take k (map f xs) ≡ map f (take k xs)
 map-take f zero xs = refl
 map-take f (suc k) [] = refl
 map-take f (suc k) (x ∷ xs) = ap (λ l. f x ∷ l) (map-take f k xs)
 
-pub map-drop : {X Y : Type 0} (f : X → Y) (k : ℕ) (xs : List X) → drop k (map f xs) ≡ map f (drop k xs)
+pub map-drop : {X Y : Type 0} (f : X → Y) (k : ℕ) (xs : List X)
+    → drop k (map f xs) ≡ map f (drop k xs)
 map-drop f zero xs = refl
 map-drop f (suc k) [] = refl
 map-drop f (suc k) (x ∷ xs) = map-drop f k xs
 
-pub get-joined : (bs : List (List Space)) (k : ℕ) → get_or (map joined bs) k [] ≡ joined (get_or bs k [])
+pub get-joined : (bs : List (List Space)) (k : ℕ)
+    → get_or (map joined bs) k [] ≡ joined (get_or bs k [])
 get-joined [] k = refl
 get-joined (b ∷ bs) zero = refl
 get-joined (b ∷ bs) (suc k) = get-joined bs k
@@ -165,10 +179,12 @@ look_up-branch bs p t =
     look_up-part (map joined bs) p (tree-some bs t) t.in_order
     ∙ ap (λ l. look_up l p) (get-joined bs (part_at (map joined bs) p))
 
-pub get-default : {X : Type 0} (xs : List X) (k : ℕ) (d e : X) → k < length xs → get_or xs k d ≡ get_or xs k e
+pub get-default : {X : Type 0} (xs : List X) (k : ℕ) (d e : X) → k < length xs
+    → get_or xs k d ≡ get_or xs k e
 get-default [] k d e lt = absurd (omega arith)
 get-default (x ∷ xs) zero d e lt = refl
-get-default (x ∷ xs) (suc k) d e lt = let below : k < length xs = omega arith in get-default xs k d e below
+get-default (x ∷ xs) (suc k) d e lt = let below : k < length xs =
+    omega arith in get-default xs k d e below
 
 pub joined-more : (ps : List Space) (k : ℕ) (d : Space) → k < length ps
     → joined (take (k + 1) ps) ≡ joined (take k ps) ++ get_or ps k d
@@ -177,7 +193,8 @@ joined-more (x ∷ xs) zero d lt = append-nil x
 joined-more (x ∷ xs) (suc k) d lt =
     let below : k < length xs = omega arith in
     let e : suc k + 1 ≡ suc (k + 1) = omega arith in
-    rw e (ap (λ l. x ++ l) (joined-more xs k d below) ∙ sym (append_assoc x (joined (take k xs)) (get_or xs k d)))
+    rw e (ap (λ l. x ++ l) (joined-more xs k d below)
+    ∙ sym (append_assoc x (joined (take k xs)) (get_or xs k d)))
 
 pub entries-more : (bs : List (List Space)) (k : ℕ) (d : List Space) → k < length bs
     → entries_of (take (k + 1) bs) ≡ entries_of (take k bs) ++ joined (get_or bs k d)
@@ -186,4 +203,5 @@ entries-more (x ∷ xs) zero d lt = append-nil (joined x)
 entries-more (x ∷ xs) (suc k) d lt =
     let below : k < length xs = omega arith in
     let e : suc k + 1 ≡ suc (k + 1) = omega arith in
-    rw e (ap (λ l. joined x ++ l) (entries-more xs k d below) ∙ sym (append_assoc (joined x) (entries_of (take k xs)) (joined (get_or xs k d))))
+    rw e (ap (λ l. joined x ++ l) (entries-more xs k d below)
+    ∙ sym (append_assoc (joined x) (entries_of (take k xs)) (joined (get_or xs k d))))

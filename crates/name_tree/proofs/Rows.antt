@@ -1,7 +1,10 @@
 -- Rows of eight, and the values that they are made of.
-use Rattle.std.proofs.Common.{ℕ, zero, suc, ◌+◌, ◌-◌, ◌*◌, ◌<◌, ◌≤◌, ◌⊎◌, inl, inr, length, get_or, arith, ◌≡◌}
-use Rattle.std.proofs.Common.{List, [], ◌∷◌, ◌++◌, refl, sym, ap, ◌∙◌, take, drop, length-append, subst, take_all}
-use Rattle.std.proofs.lemmas.List.{append-nil, length-take-le, length-drop, ext_get_or, get_or-take, get_or-drop}
+use Rattle.std.proofs.Common.{ℕ, zero, suc, ◌+◌, ◌-◌, ◌*◌, ◌<◌, ◌≤◌, ◌⊎◌, inl, inr, length, get_or}
+use Rattle.std.proofs.Common.{arith, ◌≡◌}
+use Rattle.std.proofs.Common.{List, [], ◌∷◌, ◌++◌, refl, sym, ap, ◌∙◌, take, drop, length-append}
+use Rattle.std.proofs.Common.{subst, take_all}
+use Rattle.std.proofs.lemmas.List.{append-nil, length-take-le, length-drop, ext_get_or, get_or-take}
+use Rattle.std.proofs.lemmas.List.{get_or-drop}
 use Rattle.std.proofs.lemmas.List.{get_or_append_left, get_or-append_right, get_or_default}
 use Rattle.name_tree.specs.Few.{in_rows, IsRow}
 
@@ -27,7 +30,8 @@ module _ {X : Type 0} where
       → (at + 6 ≤ last → x6 ≡ get_or xs (at + 6) x6)
       → (at + 7 ≤ last → x7 ≡ get_or xs (at + 7) x7)
       → IsRow xs at last (x0 ∷ x1 ∷ x2 ∷ x3 ∷ x4 ∷ x5 ∷ x6 ∷ x7 ∷ [])
-  row-of xs at last x0 x1 x2 x3 x4 x5 x6 x7 within h0 h1 h2 h3 h4 h5 h6 h7 = record { long = refl; same = go }
+  row-of xs at last x0 x1 x2 x3 x4 x5 x6 x7 within h0 h1 h2 h3 h4 h5 h6 h7 =
+      record { long = refl; same = go }
     where
       one : (k : ℕ) (x d : X) → k ≤ last → (k ≤ last → x ≡ get_or xs k x) → x ≡ get_or xs k d
       one k x d le h = h le ∙ get_or_default xs k x d (omega (arith, within, le))
@@ -63,8 +67,16 @@ module _ {X : Type 0} where
       let e4 : at + 32 ≡ at + 8 + 8 + 8 + 8 = omega arith in
       let e5 : at + 40 ≡ at + 8 + 8 + 8 + 8 + 8 = omega arith in
       let e6 : at + 48 ≡ at + 8 + 8 + 8 + 8 + 8 + 8 = omega arith in
-      let e7 : at + 56 ≡ at + 8 + 8 + 8 + 8 + 8 + 8 + 8 = omega arith in
-      (h0, (h1, (moved e2 h2, (moved e3 h3, (moved e4 h4, (moved e5 h5, (moved e6 h6, (moved e7 h7, tt))))))))
+      let e7 : at + 56 ≡ at + 8 + 8 + 8 + 8 + 8 + 8 + 8 = omega arith in (
+        h0,
+        (
+          h1,
+          (
+            moved e2 h2,
+            (moved e3 h3, (moved e4 h4, (moved e5 h5, (moved e6 h6, (moved e7 h7, tt))))),
+          ),
+        ),
+      )
     where
       moved : {m n : ℕ} {r : List X} → m ≡ n → IsRow xs m last r → IsRow xs n last r
       moved {m} {n} {r} e h = subst (λ k. IsRow xs k last r) e h
@@ -74,17 +86,20 @@ module _ {X : Type 0} where
   length-rows xs at last [] h = refl
   length-rows xs at last (r ∷ rs) h =
       let i : length (in_rows rs) ≡ 8 * length rs = length-rows xs (at + 8) last rs h.1 in
-      let a : length (r ++ in_rows rs) ≡ length r + length (in_rows rs) = length-append r (in_rows rs) in
+      let a : length (r ++ in_rows rs) ≡ length r + length (in_rows rs) =
+      length-append r (in_rows rs) in
       let l : length r ≡ 8 = h.0.long in
       omega (arith, i, a, l)
 
-  at-row : (xs : List X) (at last : ℕ) (rs : List (List X)) → AreRows xs at last rs → (k : ℕ) (d : X)
+  at-row : (xs : List X) (at last : ℕ) (rs : List (List X)) → AreRows xs at last rs
+      → (k : ℕ) (d : X)
       → k < 8 * length rs → at + k ≤ last → get_or (in_rows rs) k d ≡ get_or xs (at + k) d
   at-row xs at last [] h k d lt le = absurd (omega (arith, lt))
   at-row xs at last (r ∷ rs) h k d lt le = go (split 8 k) (at-row xs (at + 8) last rs h.1 (k - 8) d)
     where
       go : (k < 8) ⊎ (8 ≤ k)
-          → (k - 8 < 8 * length rs → at + 8 + (k - 8) ≤ last → get_or (in_rows rs) (k - 8) d ≡ get_or xs (at + 8 + (k - 8)) d)
+          → (k - 8 < 8 * length rs → at + 8 + (k - 8) ≤ last
+          → get_or (in_rows rs) (k - 8) d ≡ get_or xs (at + 8 + (k - 8)) d)
           → get_or (r ++ in_rows rs) k d ≡ get_or xs (at + k) d
       go (inl small) later =
           let l : length r ≡ 8 = h.0.long in
@@ -96,20 +111,25 @@ module _ {X : Type 0} where
           ∙ later below (omega (arith, le, big))
           ∙ ap (λ n. get_or xs n d) e
 
-  pub few-of : (xs : List X) (from count : ℕ) (rs : List (List X)) → 0 < count → count ≤ 8 * length rs
+  pub few-of : (xs : List X) (from count : ℕ) (rs : List (List X)) → 0 < count
+      → count ≤ 8 * length rs
       → from + count ≤ length xs → AreRows xs from (from + (count - 1)) rs
       → take count (in_rows rs) ≡ take count (drop from xs)
   few-of [] from count rs some few within h = absurd (omega (arith, some, within))
   few-of (x ∷ xs) from count rs some few within h =
       let all : List X = x ∷ xs in
-      let l : length (in_rows rs) ≡ 8 * length rs = length-rows all from (from + (count - 1)) rs h in
-      let t : length (take count (in_rows rs)) ≡ count = length-take-le count (in_rows rs) (omega (arith, few, l)) in
+      let l : length (in_rows rs) ≡ 8 * length rs =
+      length-rows all from (from + (count - 1)) rs h in
+      let t : length (take count (in_rows rs)) ≡ count =
+      length-take-le count (in_rows rs) (omega (arith, few, l)) in
       let d : length (drop from all) ≡ length all - from = length-drop from all in
-      let u : length (take count (drop from all)) ≡ count = length-take-le count (drop from all) (omega (arith, within, d)) in
+      let u : length (take count (drop from all)) ≡ count =
+      length-take-le count (drop from all) (omega (arith, within, d)) in
       ext_get_or x (take count (in_rows rs)) (take count (drop from all)) (t ∙ sym u) (λ i lt.
       let small : i < count = omega (arith, lt, t) in
       get_or-take count (in_rows rs) i x small
-      ∙ at-row all from (from + (count - 1)) rs h i x (omega (arith, small, few)) (omega (arith, small))
+      ∙ at-row all from (from + (count - 1)) rs h i x (omega (arith, small, few))
+      (omega (arith, small))
       ∙ sym (get_or-drop from all i x)
       ∙ sym (get_or-take count (drop from all) i x small))
 

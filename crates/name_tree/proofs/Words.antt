@@ -31,7 +31,8 @@ digit : (m n x y : ℕ) → x < 256 → y < 256
     → nat_cmp (m * 256 + x) (n * 256 + y) ≡ ordering_then (nat_cmp m n) (nat_cmp x y)
 digit m n x y a b = go (nat_cmp m n) refl (ranked m n (nat_cmp m n) refl)
   where
-    last : (o : Ordering) → m ≡ n → MatchOrdering o (x < y) (x ≡ y) (y < x) → nat_cmp (m * 256 + x) (n * 256 + y) ≡ o
+    last : (o : Ordering) → m ≡ n → MatchOrdering o (x < y) (x ≡ y) (y < x)
+        → nat_cmp (m * 256 + x) (n * 256 + y) ≡ o
     last Less e l = is_less (m * 256 + x) (n * 256 + y) (omega arith)
     last Equal e l =
         let same : m * 256 + x ≡ n * 256 + y = omega arith in
@@ -44,7 +45,8 @@ digit m n x y a b = go (nat_cmp m n) refl (ranked m n (nat_cmp m n) refl)
     go Equal e l = last (nat_cmp x y) l (ranked x y (nat_cmp x y) refl)
     go Greater e l = is_greater (m * 256 + x) (n * 256 + y) (omega arith)
 
-then_then : (o p q : Ordering) → ordering_then o (ordering_then p q) ≡ ordering_then (ordering_then o p) q
+then_then : (o p q : Ordering)
+    → ordering_then o (ordering_then p q) ≡ ordering_then (ordering_then o p) q
 then_then Less p q = refl
 then_then Equal p q = refl
 then_then Greater p q = refl
@@ -58,17 +60,22 @@ words m n (suc k) [] ys p q a b = absurd (omega arith)
 words m n (suc k) (x ∷ xs) [] p q a b = absurd (omega arith)
 words m n (suc k) (x ∷ xs) (y ∷ ys) p q a b =
     then_then (nat_cmp m n) (nat_cmp x y) (slice_cmp nat_cmp xs ys)
-    ∙ ap (λ o. ordering_then o (slice_cmp nat_cmp xs ys)) (sym (digit m n x y (a 0).fits (b 0).fits))
-    ∙ words (m * 256 + x) (n * 256 + y) k xs ys (omega arith) (omega arith) (λ i. a (suc i)) (λ i. b (suc i))
+    ∙ ap (λ o. ordering_then o (slice_cmp nat_cmp xs ys))
+    (sym (digit m n x y (a 0).fits (b 0).fits))
+    ∙ words (m * 256 + x) (n * 256 + y) k xs ys (omega arith) (omega arith) (λ i. a (suc i))
+    (λ i. b (suc i))
 
 -- the first eight bytes of each from a position on
-eight : (at : ℕ) (xs ys : List ℕ) → at + 8 ≤ length xs → at + 8 ≤ length ys → AreBytes xs → AreBytes ys
+eight : (at : ℕ) (xs ys : List ℕ) → at + 8 ≤ length xs → at + 8 ≤ length ys → AreBytes xs
+    → AreBytes ys
     → slice_cmp nat_cmp (drop at xs) (drop at ys)
-    ≡ ordering_then (nat_cmp (number_of 0 (take 8 (drop at xs))) (number_of 0 (take 8 (drop at ys))))
+    ≡ ordering_then
+    (nat_cmp (number_of 0 (take 8 (drop at xs))) (number_of 0 (take 8 (drop at ys))))
     (slice_cmp nat_cmp (drop (at + 8) xs) (drop (at + 8) ys))
 eight at xs ys p q a b =
     let o = nat_cmp (number_of 0 (take 8 (drop at xs))) (number_of 0 (take 8 (drop at ys))) in
-    words 0 0 8 (drop at xs) (drop at ys) (omega (arith, length-drop at xs)) (omega (arith, length-drop at ys))
+    words 0 0 8 (drop at xs) (drop at ys) (omega (arith, length-drop at xs))
+    (omega (arith, length-drop at ys))
     (bytes_drop at xs a) (bytes_drop at ys b)
     ∙ ap (λ zs. ordering_then o (slice_cmp nat_cmp zs (drop 8 (drop at ys)))) (drop-drop 8 at xs)
     ∙ ap (λ zs. ordering_then o (slice_cmp nat_cmp (drop (at + 8) xs) zs)) (drop-drop 8 at ys)
@@ -83,8 +90,10 @@ decided x y o n = go (nat_cmp x y) refl (ranked x y (nat_cmp x y) refl)
     go Equal e l = absurd (n l)
     go Greater e l = grind (arith, nat_tests, l)
 
-pub word_decides : (at x y : ℕ) (xs ys : List ℕ) → at + 8 ≤ length xs → at + 8 ≤ length ys → AreBytes xs
-    → AreBytes ys → x ≡ number_of 0 (take 8 (drop at xs)) → y ≡ number_of 0 (take 8 (drop at ys)) → x ≢ y
+pub word_decides : (at x y : ℕ) (xs ys : List ℕ) → at + 8 ≤ length xs → at + 8 ≤ length ys
+    → AreBytes xs
+    → AreBytes ys → x ≡ number_of 0 (take 8 (drop at xs)) → y ≡ number_of 0 (take 8 (drop at ys))
+    → x ≢ y
     → nat_lt x y ≡ is_lt (name_cmp (drop at xs) (drop at ys))
 word_decides at x y xs ys p q a b e f n =
     let rest = slice_cmp nat_cmp (drop (at + 8) xs) (drop (at + 8) ys) in
@@ -97,13 +106,17 @@ word_decides at x y xs ys p q a b e f n =
 level : (x y : ℕ) → x ≡ y → nat_cmp x y ≡ Equal
 level x y e = grind (arith, nat_tests, e)
 
-pub word_passes : (at x y : ℕ) (xs ys : List ℕ) → at + 8 ≤ length xs → at + 8 ≤ length ys → AreBytes xs
-    → AreBytes ys → x ≡ number_of 0 (take 8 (drop at xs)) → y ≡ number_of 0 (take 8 (drop at ys)) → x ≡ y
+pub word_passes : (at x y : ℕ) (xs ys : List ℕ) → at + 8 ≤ length xs → at + 8 ≤ length ys
+    → AreBytes xs
+    → AreBytes ys → x ≡ number_of 0 (take 8 (drop at xs)) → y ≡ number_of 0 (take 8 (drop at ys))
+    → x ≡ y
     → name_cmp (drop (at + 8) xs) (drop (at + 8) ys) ≡ name_cmp (drop at xs) (drop at ys)
 word_passes at x y xs ys p q a b e f s =
     let rest = slice_cmp nat_cmp (drop (at + 8) xs) (drop (at + 8) ys) in
     sym (eight at xs ys p q a b
-    ∙ ap (λ o. ordering_then o rest) (level (number_of 0 (take 8 (drop at xs))) (number_of 0 (take 8 (drop at ys))) (sym e ∙ s ∙ f)))
+    ∙ ap (λ o. ordering_then o rest)
+    (level (number_of 0 (take 8 (drop at xs))) (number_of 0 (take 8 (drop at ys)))
+    (sym e ∙ s ∙ f)))
 
 -- a number read from eight bytes
 eight_read : (xs : List ℕ) → length xs ≡ 8 → from_be_bytes w64 xs ≡ number_of 0 xs
@@ -120,4 +133,6 @@ eight_read (b0 ∷ b1 ∷ b2 ∷ b3 ∷ b4 ∷ b5 ∷ b6 ∷ []) e = absurd (ome
 
 pub word_is : (at : ℕ) (xs : List ℕ) → at + 8 ≤ length xs
     → from_be_bytes w64 (take 8 (drop at xs)) ≡ number_of 0 (take 8 (drop at xs))
-word_is at xs l = eight_read (take 8 (drop at xs)) (length-take-le 8 (drop at xs) (omega (arith, length-drop at xs)))
+word_is at xs l =
+    eight_read (take 8 (drop at xs))
+    (length-take-le 8 (drop at xs) (omega (arith, length-drop at xs)))

@@ -97,7 +97,8 @@ ending (byte ∷ rest) count size few short h =
     ]
 
 -- after the first `/` follows what ends a path
-pub after_slash : (parts : List (List ℕ)) (rest : List ℕ) → AreParts parts → 47 ∷ rest ≡ joined parts
+pub after_slash : (parts : List (List ℕ)) (rest : List ℕ) → AreParts parts
+    → 47 ∷ rest ≡ joined parts
     → Follows 1 0 rest
 after_slash [] rest are is = absurd (omega arith)
 after_slash (part ∷ parts) rest are is =

@@ -8,7 +8,8 @@ number_at width place bytes = little_number width (drop place bytes)
 
 -- the bytes with a number of this many bytes written at this place
 abbrev pub with_number : ℕ → ℕ → ℕ → List ℕ → List ℕ
-with_number width place value bytes = take place bytes ++ little_bytes width value ++ drop (place + width) bytes
+with_number width place value bytes =
+    take place bytes ++ little_bytes width value ++ drop (place + width) bytes
 
 -- this many zero bytes
 unfoldable pub zeros : ℕ → List ℕ

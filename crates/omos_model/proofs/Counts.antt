@@ -38,7 +38,8 @@ remarked-same : (f : Mark → Mark) (rows : List MarkRow)
     → references (map (remarked f) rows) ≡ references rows
 remarked-same f [] = refl
 remarked-same f (r ∷ rows) =
-    let after = sum_by-cons (λ (r : MarkRow). length r.marks) (remarked f r) (map (remarked f) rows) in
+    let after =
+    sum_by-cons (λ (r : MarkRow). length r.marks) (remarked f r) (map (remarked f) rows) in
     let before = sum_by-cons (λ (r : MarkRow). length r.marks) r rows in
     after ∙ ap (λ n. length (map f r.marks) + n) (remarked-same f rows)
     ∙ ap (λ n. n + references rows) (length-map r.marks f) ∙ sym before
@@ -47,7 +48,8 @@ two_parts : (v w x : Visit) (t u : Term) → Counted v t w → Counted w u x
     → (x.leaves ≡ v.leaves + length (states t ++ states u))
     × (x.fixups ≡ v.fixups + references (states t ++ states u))
 two_parts v w x t u h k = (
-  k.leaves ∙ ap (λ n. n + length (states u)) h.leaves ∙ omega (arith, length-append (states t) (states u)),
+  k.leaves ∙ ap (λ n. n + length (states u)) h.leaves
+      ∙ omega (arith, length-append (states t) (states u)),
   k.fixups ∙ ap (λ n. n + references (states u)) h.fixups
       ∙ omega (arith, sum_by-append (λ (r : MarkRow). length r.marks) (states t) (states u)),
 )
@@ -57,7 +59,8 @@ one_leaf : (v : Visit) (f : FragmentParts) (s : Site) → has_room v f ≡ true
 one_leaf v f s room =
     let most = nat_lt v.leaves 256 && nat_le (v.exports + length f.exports) 524288 in
     let parts = and_parts most (nat_le (v.fixups + length f.fixups) 524288) room in
-    let first = and_parts (nat_lt v.leaves 256) (nat_le (v.exports + length f.exports) 524288) parts.0 in
+    let first =
+    and_parts (nat_lt v.leaves 256) (nat_le (v.exports + length f.exports) 524288) parts.0 in
     let few : v.leaves < 256 = ltb-true v.leaves 256 first.0 in
     let bounded : v.fixups + length f.fixups ≤ 524288 =
     leb-true (v.fixups + length f.fixups) 524288 parts.1 in
@@ -79,8 +82,11 @@ counted = record {
       record { leaves = parts.0; fixups = parts.1; few = k.few; bounded = k.bounded };
   apply = λ s op v w t h.
       record {
-        leaves = h.leaves ∙ ap (λ n. v.leaves + n) (sym (length-map (states t) (remarked (marked_by op (definition t)))));
-        fixups = h.fixups ∙ ap (λ n. v.fixups + n) (sym (remarked-same (marked_by op (definition t)) (states t)));
+        leaves = h.leaves
+            ∙ ap (λ n. v.leaves + n)
+            (sym (length-map (states t) (remarked (marked_by op (definition t)))));
+        fixups = h.fixups
+            ∙ ap (λ n. v.fixups + n) (sym (remarked-same (marked_by op (definition t)) (states t)));
         few = h.few;
         bounded = h.bounded;
       };

@@ -28,7 +28,8 @@ pub with_name : (e : Export) (rest : List Export) (key n : Name) (old new : Bool
     → old ≡ is_exported rest n
     → new ≡ cond (is_eq (name_cmp key n)) true old → new ≡ is_exported (e ∷ rest) n
 with_name e rest key n old new same before after =
-    after ∙ rw (same, is_eq-name_cmp e.name n, same_name-swap e.name n, before) (or_cond (same_name n e.name) (is_exported rest n))
+    after ∙ rw (same, is_eq-name_cmp e.name n, same_name-swap e.name n, before)
+    (or_cond (same_name n e.name) (is_exported rest n))
 
 -- the first is there again, or is new
 pub has_again : (e : Export) (rest : List Export) (key : Name) (old : Bool) → key ≡ e.name

@@ -58,7 +58,8 @@ or_not false b h e = cc
 
 -- a symbol that isn't undefined, and not of a section that isn't kept, has a spot in the pieces
 right_spot : (file : List ℕ) → RightFile file → (k : ℕ) → IsSymbolNumber file k
-    → (not (is_local file k) && (st_shndx file k == shn_undef)) ≡ false → is_of_dropped file k ≡ false
+    → (not (is_local file k) && (st_shndx file k == shn_undef)) ≡ false
+    → is_of_dropped file k ≡ false
     → is_spot (pieces_of file) (spot_of file k) ≡ true
 right_spot file right k within defined kept = go (st_shndx file k == shn_abs) refl
   where
@@ -72,19 +73,28 @@ right_spot file right k within defined kept = go (st_shndx file k == shn_abs) re
         → is_spot (pieces_of file) (Inside (section_piece file n) (st_value file k)) ≡ true
     in_section a c =
         let there : is_section file n ≡ true =
-        fourth (not (is_local file k) && (n == shn_undef)) (n == shn_abs) _ (is_section file n) symbol.index defined a (and_right _ (n == shn_common) c) in
-        let loads : is_kept file n ≡ true = and_not (is_section file n) (is_kept file n) kept there in
+        fourth (not (is_local file k) && (n == shn_undef)) (n == shn_abs) _ (is_section file n)
+        symbol.index defined a (and_right _ (n == shn_common) c) in
+        let loads : is_kept file n ≡ true =
+        and_not (is_section file n) (is_kept file n) kept there in
         let small : nat_le (st_value file k) (sh_size file n) ≡ true =
-        or_not (is_kept file n) _ (and_parts (not (is_kept file n) || nat_le (st_value file k) (sh_size file n)) (not (has_name file k && is_of_dropped file k)) symbol.value).0 loads in
+        or_not (is_kept file n) _
+        (and_parts (not (is_kept file n) || nat_le (st_value file k) (sh_size file n))
+        (not (has_name file k && is_of_dropped file k)) symbol.value).0 loads in
         rw (section_there file n loads) small
 
     section_or_common : (b : Bool) → is_common file k ≡ b → (n == shn_abs) ≡ false
-        → is_spot (pieces_of file) (cond b (Inside (common_piece file k) 0) (Inside (section_piece file n) (st_value file k))) ≡ true
+        → is_spot (pieces_of file)
+        (cond b (Inside (common_piece file k) 0)
+        (Inside (section_piece file n) (st_value file k))) ≡ true
     section_or_common true c a = rw (common_there file k within c) (le-leb 0 _ (omega arith))
     section_or_common false c a = in_section a c
 
     go : (b : Bool) → (n == shn_abs) ≡ b
-        → is_spot (pieces_of file) (cond b (Fixed (st_value file k)) (cond (is_common file k) (Inside (common_piece file k) 0) (Inside (section_piece file n) (st_value file k)))) ≡ true
+        → is_spot (pieces_of file)
+        (cond b (Fixed (st_value file k))
+        (cond (is_common file k) (Inside (common_piece file k) 0)
+        (Inside (section_piece file n) (st_value file k)))) ≡ true
     go true a = refl
     go false a = section_or_common (is_common file k) refl a
 
@@ -98,19 +108,27 @@ right_export : (file : List ℕ) → RightFile file → (k : ℕ) → IsSymbolNu
 right_export file right k within h =
     let parts = and_parts (has_name file k) (not (st_shndx file k == shn_undef)) h in
     let value = (right_symbol file right k within).value in
-    let fine = (and_parts (not (is_kept file (st_shndx file k)) || nat_le (st_value file k) (sh_size file (st_shndx file k))) (not (has_name file k && is_of_dropped file k)) value).1 in
-    right_spot file right k within (and_right _ _ (not-true (st_shndx file k == shn_undef) parts.1)) (rest_false (has_name file k) (is_of_dropped file k) (not-true (has_name file k && is_of_dropped file k) fine) parts.0)
+    let fine =
+    (and_parts (not (is_kept file (st_shndx file k))
+    || nat_le (st_value file k) (sh_size file (st_shndx file k)))
+    (not (has_name file k && is_of_dropped file k)) value).1 in
+    right_spot file right k within (and_right _ _ (not-true (st_shndx file k == shn_undef) parts.1))
+    (rest_false (has_name file k) (is_of_dropped file k)
+    (not-true (has_name file k && is_of_dropped file k) fine) parts.0)
 
 right_exports : (file : List ℕ) → RightFile file
     → list_all (λ x. is_spot (pieces_of file) x.spot) (exports_of file) ≡ true
 right_exports file right =
     list_all-map _ _ (filter (is_export file) (symbols file))
-    ∙ all_filtered (is_export file) (λ k. is_spot (pieces_of file) (spot_of file k)) 1 (symbol_count file - 1) (right_export file right)
+    ∙ all_filtered (is_export file) (λ k. is_spot (pieces_of file) (spot_of file k)) 1
+    (symbol_count file - 1) (right_export file right)
 
 -- no export of the run has the name n
 not_among : (file : List ℕ) (n : Name) (s c : ℕ)
     → ((k : ℕ) → InRange s c k → is_export file k ≡ true → same_name n (name_of file k) ≡ false)
-    → is_exported (map (λ k. record { name = name_of file k; spot = spot_of file k }) (filter (is_export file) (numbers_from s c))) n ≡ false
+    → is_exported
+    (map (λ k. record { name = name_of file k; spot = spot_of file k })
+    (filter (is_export file) (numbers_from s c))) n ≡ false
 not_among file n s zero h = refl
 not_among file n s (suc c) h =
     go (is_export file s) refl (not_among file n (s + 1) c (λ k r. h k (rest_in s c k r)))
@@ -119,24 +137,34 @@ not_among file n s (suc c) h =
     rest = filter (is_export file) (numbers_from (s + 1) c)
 
     go : (b : Bool) → is_export file s ≡ b
-        → is_exported (map (λ k. record { name = name_of file k; spot = spot_of file k }) rest) n ≡ false
-        → is_exported (map (λ k. record { name = name_of file k; spot = spot_of file k }) (cond b (s ∷ rest) rest)) n ≡ false
+        → is_exported (map (λ k. record { name = name_of file k; spot = spot_of file k }) rest) n
+        ≡ false
+        → is_exported
+        (map (λ k. record { name = name_of file k; spot = spot_of file k })
+        (cond b (s ∷ rest) rest)) n ≡ false
     go true e i = or_from _ _ (h s (first_in s c) e) i
     go false e i = i
 
 distinct_from : (file : List ℕ) (s c : ℕ)
-    → ((j k : ℕ) → InRange s c j → InRange s c k → j < k → is_export file j ≡ true → is_export file k ≡ true → same_name (name_of file k) (name_of file j) ≡ false)
-    → are_distinct (map (λ k. record { name = name_of file k; spot = spot_of file k }) (filter (is_export file) (numbers_from s c))) ≡ true
+    → ((j k : ℕ) → InRange s c j → InRange s c k → j < k → is_export file j ≡ true
+    → is_export file k ≡ true → same_name (name_of file k) (name_of file j) ≡ false)
+    → are_distinct
+    (map (λ k. record { name = name_of file k; spot = spot_of file k })
+    (filter (is_export file) (numbers_from s c))) ≡ true
 distinct_from file s zero h = refl
 distinct_from file s (suc c) h =
-    go (is_export file s) refl (distinct_from file (s + 1) c (λ j k a b. h j k (rest_in s c j a) (rest_in s c k b)))
+    go (is_export file s) refl
+    (distinct_from file (s + 1) c (λ j k a b. h j k (rest_in s c j a) (rest_in s c k b)))
   where
     rest : List ℕ
     rest = filter (is_export file) (numbers_from (s + 1) c)
 
     go : (b : Bool) → is_export file s ≡ b
-        → are_distinct (map (λ k. record { name = name_of file k; spot = spot_of file k }) rest) ≡ true
-        → are_distinct (map (λ k. record { name = name_of file k; spot = spot_of file k }) (cond b (s ∷ rest) rest)) ≡ true
+        → are_distinct (map (λ k. record { name = name_of file k; spot = spot_of file k }) rest)
+        ≡ true
+        → are_distinct
+        (map (λ k. record { name = name_of file k; spot = spot_of file k })
+        (cond b (s ∷ rest) rest)) ≡ true
     go true e i =
         and_from _ _
         (not_from_false _ (not_among file (name_of file s) (s + 1) c (
@@ -150,10 +178,15 @@ distinct_exports : (file : List ℕ) → RightFile file → are_distinct (export
 distinct_exports file right =
     distinct_from file 1 (symbol_count file - 1) (
     λ j k a b below x y.
-    let below_k : InRange 1 (k - 1) j = record { low = a.low; high = omega (arith, a.low, below) } in
-    let none = rest_false (is_export file k) (list_any (λ i. is_export file i && same_name (name_of file k) (name_of file i)) (numbers_from 1 (k - 1))) (right.names k b) y in
+    let below_k : InRange 1 (k - 1) j =
+    record { low = a.low; high = omega (arith, a.low, below) } in
+    let none =
+    rest_false (is_export file k)
+    (list_any (λ i. is_export file i && same_name (name_of file k) (name_of file i))
+    (numbers_from 1 (k - 1))) (right.names k b) y in
     rest_false (is_export file j) (same_name (name_of file k) (name_of file j))
-    (any_none (λ i. is_export file i && same_name (name_of file k) (name_of file i)) 1 (k - 1) none j below_k) x
+    (any_none (λ i. is_export file i && same_name (name_of file k) (name_of file i)) 1 (k - 1) none
+    j below_k) x
     )
 
 -- ---- fixups
@@ -162,13 +195,19 @@ right_rela : (file : List ℕ) → RightFile file → (i : ℕ) → IsSectionNum
     → is_used_rela file i ≡ true → is_right_rela file i ≡ true
 right_rela file right i within h =
     let is_rela = (and_parts (sh_type file i == 4) (is_kept file (sh_info file i)) h).0 in
-    let fine = rest_false (sh_type file i == 4) (not (nat_lt (sh_info file i) (e_shnum file)) || (is_used_rela file i && not (is_right_rela file i))) (right.relas i within) is_rela in
-    and_not (is_used_rela file i) (is_right_rela file i) (or_parts (not (nat_lt (sh_info file i) (e_shnum file))) (is_used_rela file i && not (is_right_rela file i)) fine).1 h
+    let fine =
+    rest_false (sh_type file i == 4) (not (nat_lt (sh_info file i) (e_shnum file))
+    || (is_used_rela file i && not (is_right_rela file i))) (right.relas i within) is_rela in
+    and_not (is_used_rela file i) (is_right_rela file i)
+    (or_parts (not (nat_lt (sh_info file i) (e_shnum file)))
+    (is_used_rela file i && not (is_right_rela file i)) fine).1 h
 
 few_entries : (file : List ℕ) → RightFile file → length (entries file) ≤ 65535
 few_entries file right =
     rw (length-pairs (entry_count file) (filter (is_used_rela file) (sections file)))
-    (total_bound (is_used_rela file) (entry_count file) 65535 (e_shnum file - 1) (λ i within h. leb-true (entries_up_to file i) 65535 (and_parts _ _ (right_rela file right i within h)).1))
+    (total_bound (is_used_rela file) (entry_count file) 65535 (e_shnum file - 1)
+    (λ i within h. leb-true (entries_up_to file i) 65535
+    (and_parts _ _ (right_rela file right i within h)).1))
 
 -- the entry is there, in a section that is used
 abbrev inside : List ℕ → ℕ × ℕ → Bool
@@ -179,7 +218,9 @@ all_inside file =
     all_pairs (is_used_rela file) (entry_count file) (inside file) 1 (e_shnum file - 1) (
     λ i j within h below.
     and_from _ _
-    (and_from _ _ (and_from _ _ (lt-ltb 0 i (omega (arith, within.low))) (lt-ltb i (e_shnum file) (omega (arith, within.low, within.high)))) h)
+    (and_from _ _
+    (and_from _ _ (lt-ltb 0 i (omega (arith, within.low)))
+    (lt-ltb i (e_shnum file) (omega (arith, within.low, within.high)))) h)
     (lt-ltb j (entry_count file i) below)
     )
 
@@ -203,8 +244,10 @@ right_fixup file right e y h is = go (kind_of (r_type file e.0 e.1)) refl is
     parts : (not (is_wrong_entry file e) ≡ true) × (inside file e ≡ true)
     parts = and_parts (not (is_wrong_entry file e)) (inside file e) h
 
-    there : ((is_section file i && is_used_rela file i) ≡ true) × (nat_lt j (entry_count file i) ≡ true)
-    there = and_parts (is_section file i && is_used_rela file i) (nat_lt j (entry_count file i)) parts.1
+    there : ((is_section file i && is_used_rela file i) ≡ true)
+        × (nat_lt j (entry_count file i) ≡ true)
+    there = and_parts (is_section file i && is_used_rela file i) (nat_lt j (entry_count file i))
+        parts.1
 
     used : (is_section file i ≡ true) × (is_used_rela file i ≡ true)
     used = and_parts (is_section file i) (is_used_rela file i) there.0
@@ -215,64 +258,104 @@ right_fixup file right e y h is = go (kind_of (r_type file e.0 e.1)) refl is
     has_entry : (sh_size file i == 0) ≡ true → ⊥
     has_entry z =
         let empty : entry_count file i ≡ 0 = ap (λ n. n / 24) (eqb-true (sh_size file i) 0 z) in
-        let below : j < entry_count file i = ltb-true j (entry_count file i) there.1 in absurd (omega (arith, empty, below))
+        let below : j < entry_count file i = ltb-true j (entry_count file i) there.1 in
+        absurd (omega (arith, empty, below))
 
     has_bytes : is_nobits file target ≡ false
     has_bytes =
         let rela = right_rela file right i (section_number file i used.0) used.1 in
         let most = and_parts _ (nat_le (entries_up_to file i) 65535) rela in
         let both = and_parts _ (not (is_nobits file target) || (sh_size file i == 0)) most.0 in
-        false_from_ne_true (is_nobits file target) (λ b. has_entry (or_not (is_nobits file target) (sh_size file i == 0) both.1 b))
+        false_from_ne_true (is_nobits file target)
+        (λ b. has_entry (or_not (is_nobits file target) (sh_size file i == 0) both.1 b))
 
     aims : is_aim_of file k ≡ true → is_aim (pieces_of file) (aim_of file k) ≡ true
     aims a = at_zero (k == 0) refl
       where
         local : (b : Bool) → is_local file k ≡ b → (k == 0) ≡ false
-            → is_aim (pieces_of file) (cond b (aim.At (spot_of file k)) (aim.Name (name_of file k) ((st_shndx file k == shn_undef) && (binding file k == stb_weak)))) ≡ true
+            → is_aim (pieces_of file)
+            (cond b (aim.At (spot_of file k))
+            (aim.Name (name_of file k)
+            ((st_shndx file k == shn_undef) && (binding file k == stb_weak)))) ≡ true
         local false l z = refl
         local true l z =
-            let known = and_parts (nat_lt k (symbol_count file)) (not (nat_lt 0 k && is_local file k && is_of_dropped file k)) a in
+            let known =
+            and_parts (nat_lt k (symbol_count file))
+            (not (nat_lt 0 k && is_local file k && is_of_dropped file k)) a in
             let below : k < symbol_count file = ltb-true k (symbol_count file) known.0 in
             let some : 0 < k = omega (arith, eqb-false k 0 z) in
-            let named : (nat_lt 0 k && is_local file k) ≡ true = and_from (nat_lt 0 k) (is_local file k) (lt-ltb 0 k some) l in
-            right_spot file right k (record { low = omega (arith, some); high = omega (arith, below, some) })
-            (and_left (not (is_local file k)) (st_shndx file k == shn_undef) (not_from_true (is_local file k) l))
-            (rest_false (nat_lt 0 k && is_local file k) (is_of_dropped file k) (not-true _ known.1) named)
+            let named : (nat_lt 0 k && is_local file k) ≡ true =
+            and_from (nat_lt 0 k) (is_local file k) (lt-ltb 0 k some) l in
+            right_spot file right k
+            (record { low = omega (arith, some); high = omega (arith, below, some) })
+            (and_left (not (is_local file k)) (st_shndx file k == shn_undef)
+            (not_from_true (is_local file k) l))
+            (rest_false (nat_lt 0 k && is_local file k) (is_of_dropped file k) (not-true _ known.1)
+            named)
 
         at_zero : (b : Bool) → (k == 0) ≡ b
-            → is_aim (pieces_of file) (cond b (aim.At (Fixed 0)) (cond (is_local file k) (aim.At (spot_of file k)) (aim.Name (name_of file k) ((st_shndx file k == shn_undef) && (binding file k == stb_weak))))) ≡ true
+            → is_aim (pieces_of file)
+            (cond b (aim.At (Fixed 0))
+            (cond (is_local file k) (aim.At (spot_of file k))
+            (aim.Name (name_of file k)
+            ((st_shndx file k == shn_undef) && (binding file k == stb_weak))))) ≡ true
         at_zero true z = refl
         at_zero false z = local (is_local file k) refl z
 
     go : (o : Option Kind) → kind_of (r_type file i j) ≡ o
-        → option_map (λ kind. record { piece = section_piece file target; offset = r_offset file i j; kind = kind; addend = r_addend file i j; aim = aim_of file k }) o ≡ Some y
+        → option_map
+        (λ kind. record {
+          piece = section_piece file target;
+          offset = r_offset file i j;
+          kind = kind;
+          addend = r_addend file i j;
+          aim = aim_of file k;
+        }) o ≡ Some y
         → is_fixup (pieces_of file) y ≡ true
     go None d s = cc
     go (Some kind) d s =
         let known : (r_type file i j == 0) ≡ false =
-        false_from_ne_true (r_type file i j == 0) (λ z. none-some kind (sym (ap kind_of (eqb-true (r_type file i j) 0 z)) ∙ d)) in
+        false_from_ne_true (r_type file i j == 0)
+        (λ z. none-some kind (sym (ap kind_of (eqb-true (r_type file i j) 0 z)) ∙ d)) in
         let fine = and_parts (is_in_target file i j) (is_aim_of file k)
-        (and_not (not (r_type file i j == 0)) (is_in_target file i j && is_aim_of file k) (not-true (is_wrong_entry file e) parts.0) (not_from_false (r_type file i j == 0) known)) in
-        let same : record { piece = section_piece file target; offset = r_offset file i j; kind = kind; addend = r_addend file i j; aim = aim_of file k } ≡ y = cc in
-        let fits : nat_le (r_offset file i j + width kind) (sh_size file target) ≡ true = rw d at fine.0 in
+        (and_not (not (r_type file i j == 0)) (is_in_target file i j && is_aim_of file k)
+        (not-true (is_wrong_entry file e) parts.0)
+        (not_from_false (r_type file i j == 0) known)) in
+        let same : record {
+          piece = section_piece file target;
+          offset = r_offset file i j;
+          kind = kind;
+          addend = r_addend file i j;
+          aim = aim_of file k;
+        } ≡ y = cc in
+        let fits : nat_le (r_offset file i j + width kind) (sh_size file target) ≡ true =
+        rw d at fine.0 in
         subst (λ z. is_fixup (pieces_of file) z ≡ true) same
-        (and_from (is_field (pieces_of file) (section_piece file target) (r_offset file i j) (width kind)) (is_aim (pieces_of file) (aim_of file k))
-        (rw (section_there file target loads) (and_from (not (is_zeros (group_of file target))) _ (rw (has_bytes, loaded (has_flag file target 4) (has_flag file target 1)) refl) fits))
+        (and_from
+        (is_field (pieces_of file) (section_piece file target) (r_offset file i j) (width kind))
+        (is_aim (pieces_of file) (aim_of file k))
+        (rw (section_there file target loads)
+        (and_from (not (is_zeros (group_of file target))) _
+        (rw (has_bytes, loaded (has_flag file target 4) (has_flag file target 1)) refl) fits))
         (aims fine.1))
 
 right_fixups : (file : List ℕ) → RightFile file
     → list_all (is_fixup (pieces_of file)) (filter_map (fixup_of file) (entries file)) ≡ true
 right_fixups file right =
-    all_made (fixup_of file) (λ e. not (is_wrong_entry file e) && inside file e) (is_fixup (pieces_of file)) (entries file) (right_fixup file right)
-    (all_both (λ e. not (is_wrong_entry file e)) (inside file) (entries file) right.entries (all_inside file))
+    all_made (fixup_of file) (λ e. not (is_wrong_entry file e) && inside file e)
+    (is_fixup (pieces_of file)) (entries file) (right_fixup file right)
+    (all_both (λ e. not (is_wrong_entry file e)) (inside file) (entries file) right.entries
+    (all_inside file))
 
 -- ---- the whole
 
 few_exports : (file : List ℕ) → RightFile file → length (exports_of file) ≤ 65535
 few_exports file right =
     let same : length (exports_of file) ≡ length (filter (is_export file) (symbols file)) =
-    length-map (λ k. record { name = name_of file k; spot = spot_of file k }) (filter (is_export file) (symbols file)) in
-    let few : length (filter (is_export file) (symbols file)) ≤ symbol_count file - 1 = length_filtered (is_export file) 1 (symbol_count file - 1) in
+    length-map (λ k. record { name = name_of file k; spot = spot_of file k })
+    (filter (is_export file) (symbols file)) in
+    let few : length (filter (is_export file) (symbols file)) ≤ symbol_count file - 1 =
+    length_filtered (is_export file) 1 (symbol_count file - 1) in
     omega (arith, right.few_symbols)
 
 few_fixups : (file : List ℕ) → RightFile file
@@ -287,7 +370,8 @@ right_parts file right =
     (and_from _ _
     (and_from _ _
     (and_from _ _
-    (and_from _ _ (le-leb (length (pieces_of file)) 69631 (few_pieces file right)) (le-leb (length (exports_of file)) 65535 (few_exports file right)))
+    (and_from _ _ (le-leb (length (pieces_of file)) 69631 (few_pieces file right))
+    (le-leb (length (exports_of file)) 65535 (few_exports file right)))
     (le-leb (length (filter_map (fixup_of file) (entries file))) 65535 (few_fixups file right)))
     (are_pieces file right))
     (right_exports file right))

@@ -85,7 +85,10 @@ takes_all test o (x ∷ xs) n a h =
     go : (b : Bool) → same_name n x ≡ b
         → (is_among xs n ≡ true → UpTo (fold (lesser test) (lesser test o x) xs) n)
         → UpTo (fold (lesser test) (lesser test o x) xs) n
-    go true e k = keeps_all test (lesser test o x) xs n (subst (λ m. UpTo (lesser test o x) m) (sym (same_name-true n x e)) (takes test o x (subst (λ m. test m ≡ true) (same_name-true n x e) h)))
+    go true e k =
+        keeps_all test (lesser test o x) xs n
+        (subst (λ m. UpTo (lesser test o x) m) (sym (same_name-true n x e))
+        (takes test o x (subst (λ m. test m ≡ true) (same_name-true n x e) h)))
     go false e k = k (rw e at a)
 
 -- where each name that passes is in the list, the least of the list is the least of all
@@ -115,4 +118,6 @@ IsLeast-unique test None None h k = refl
 IsLeast-unique test None (Some m) h k = absurd (true≢false (sym k.0 ∙ h m))
 IsLeast-unique test (Some m) None h k = absurd (true≢false (sym h.0 ∙ k m))
 IsLeast-unique test (Some m) (Some l) h k =
-    ap Some (exact_bytes m l (same_from (name_cmp m l) (h.1 l k.0) (sym (ap is_gt (nat_list_cmp_total.antisymm l m)) ∙ k.1 m h.0)))
+    ap Some (exact_bytes m l
+    (same_from (name_cmp m l) (h.1 l k.0) (sym (ap is_gt (nat_list_cmp_total.antisymm l m))
+    ∙ k.1 m h.0)))

@@ -29,7 +29,8 @@ numbers_from-add start (suc a) b =
 
 -- the leaves of two parts, one after the other
 two_parts : (v w x : Visit) (t u : Term) → Numbered v t w → Numbered w u x
-    → (count : ℕ) × (x.leaves ≡ v.leaves + count) × (leaf_numbers t ++ leaf_numbers u ≡ numbers_from v.leaves count)
+    → (count : ℕ) × (x.leaves ≡ v.leaves + count)
+    × (leaf_numbers t ++ leaf_numbers u ≡ numbers_from v.leaves count)
 two_parts v w x t u h k = (
   h.0 + k.0,
   k.1 ∙ ap (λ n. n + k.0) h.1 ∙ omega arith,
@@ -57,7 +58,11 @@ add_read-leaves p v = go (is_among v.read p)
 
 pub leaves_law : LeavesLaw
 leaves_law ns path t v is =
-    let reads = λ (p : Name) (s : Source) (e : source ns p ≡ Some s) (a w : Visit) (u : Term) (h : Numbered (add_read p a) u w).
-    subst (λ n. (count : ℕ) × (w.leaves ≡ n + count) × (leaf_numbers u ≡ numbers_from n count)) (add_read-leaves p a) h in
-    let h = subst (Holds Numbered first_visit) is (expand_holds Numbered numbered (source ns) reads 32 [] false path path first_visit) in
+    let reads =
+    λ (p : Name) (s : Source) (e : source ns p ≡ Some s) (a w : Visit) (u : Term)
+    (h : Numbered (add_read p a) u w).
+    subst (λ n. (count : ℕ) × (w.leaves ≡ n + count) × (leaf_numbers u ≡ numbers_from n count))
+    (add_read-leaves p a) h in
+    let h = subst (Holds Numbered first_visit) is
+    (expand_holds Numbered numbered (source ns) reads 32 [] false path path first_visit) in
     let e : v.leaves ≡ h.0 = h.1 ∙ omega arith in h.2 ∙ ap (numbers_from 0) (sym e)

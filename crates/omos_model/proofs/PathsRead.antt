@@ -91,7 +91,8 @@ found_path (x ∷ xs) p s h = go (same_name p x.path) refl h (found_path xs p s)
   where
     go : (b : Bool) → same_name p x.path ≡ b → cond b (Some x) (look_up xs p) ≡ Some s
         → (look_up xs p ≡ Some s → s.path ≡ p) → s.path ≡ p
-    go true d e k = let same : x ≡ s = cc in ap (λ y. y.path) (sym same) ∙ sym (same_name-true p x.path d)
+    go true d e k = let same : x ≡ s = cc in ap (λ y. y.path) (sym same)
+        ∙ sym (same_name-true p x.path d)
     go false d e k = k e
 
 entries_of : (ns : Space) (ps : List Name) → AreThere ns ps
@@ -103,7 +104,9 @@ entries_of ns (p ∷ ps) h = go (look_up ns p) refl h.0 (entries_of ns ps h.1)
         → map (λ s. s.path) (filter_map (look_up ns) ps) ≡ ps
         → map (λ s. s.path) (cons_option o (filter_map (look_up ns) ps)) ≡ p ∷ ps
     go None e k i = absurd (true≢false (sym k))
-    go (Some s) e k i = ap (λ q. q ∷ map (λ x. x.path) (filter_map (look_up ns) ps)) (found_path ns p s e) ∙ ap (λ qs. p ∷ qs) i
+    go (Some s) e k i =
+        ap (λ q. q ∷ map (λ x. x.path) (filter_map (look_up ns) ps)) (found_path ns p s e)
+        ∙ ap (λ qs. p ∷ qs) i
 
 -- what holds of the paths read before a part holds after it
 abbrev Reads : Space → Name → Visit → Term → Visit → Type 0
@@ -119,7 +122,8 @@ reads_last ns path = record {
   nested = λ v w t n m h. h;
 }
 
-absent : (ns : Name → Option Source) (room : ℕ) (above : List Name) (counts : Bool) (at p : Name) (v : Visit) → ns p ≡ None
+absent : (ns : Name → Option Source) (room : ℕ) (above : List Name) (counts : Bool) (at p : Name)
+    (v : Visit) → ns p ≡ None
     → expand ns room above counts at p v ≡ Err (NoEntry (here at v) p)
 unfolding expand
 absent ns zero above counts at p v e = rw e refl
@@ -127,12 +131,16 @@ absent ns (suc room) above counts at p v e = rw e refl
 
 pub footprint_law : FootprintLaw
 footprint_law ns path t v entries is listed =
-    let more = λ (p : Name) (s : Source) (e : source ns p ≡ Some s) (a w : Visit) (u : Term) (h : Reads ns path (add_read p a) u w) (r : WereRead ns path a.read).
+    let more =
+    λ (p : Name) (s : Source) (e : source ns p ≡ Some s) (a w : Visit) (u : Term)
+    (h : Reads ns path (add_read p a) u w) (r : WereRead ns path a.read).
     h (read_more ns path p s e a r) in
     let after = subst (Holds (Reads ns path) (add_read path first_visit)) is
-    (expand_holds_then (Reads ns path) (reads_last ns path) (source ns) more 32 [] false path path first_visit) in
+    (expand_holds_then (Reads ns path) (reads_last ns path) (source ns) more 32 [] false path path
+    first_visit) in
     let read : WereRead ns path v.read = go (source ns path) refl after in
-    let made : Some (filter_map (look_up ns) v.read) ≡ Some entries = sym (ap (footprint_of ns) is) ∙ listed in
+    let made : Some (filter_map (look_up ns) v.read) ≡ Some entries = sym (ap (footprint_of ns) is)
+    ∙ listed in
     let same : filter_map (look_up ns) v.read ≡ entries = cc in
     (ap (map (λ s. s.path)) (sym same) ∙ entries_of ns v.read read.there, read.first, read.once)
   where

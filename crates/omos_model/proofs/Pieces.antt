@@ -32,11 +32,13 @@ pub section_number : (file : List ℕ) (i : ℕ) → is_section file i ≡ true 
 section_number file i h =
     let parts = and_parts (nat_lt 0 i) (nat_lt i (e_shnum file)) h in
     let low : 0 < i = ltb-true 0 i parts.0 in
-    let high : i < e_shnum file = ltb-true i (e_shnum file) parts.1 in record { low = omega arith; high = omega arith }
+    let high : i < e_shnum file =
+    ltb-true i (e_shnum file) parts.1 in record { low = omega arith; high = omega arith }
 
 pub kept_section : (file : List ℕ) (i : ℕ) → is_kept file i ≡ true → is_section file i ≡ true
 kept_section file i h =
-    (and_parts (is_section file i) (is_alloc file i) (and_parts (is_section file i && is_alloc file i) (is_supported file i) h).0).0
+    (and_parts (is_section file i) (is_alloc file i)
+    (and_parts (is_section file i && is_alloc file i) (is_supported file i) h).0).0
 
 -- ---- each piece is one
 
@@ -55,52 +57,71 @@ aligned a h = go (a == 0) h
 filled : (file : List ℕ) (i : ℕ) → lies_in_file file i ≡ true
     → length (section_bytes file i) ≡ sh_size file i
 filled file i h =
-    let end : sh_offset file i + sh_size file i ≤ length file = leb-true (sh_offset file i + sh_size file i) (length file) h in
-    length-take-le (sh_size file i) (drop (sh_offset file i) file) (omega (arith, length-drop (sh_offset file i) file, end))
+    let end : sh_offset file i + sh_size file i ≤ length file =
+    leb-true (sh_offset file i + sh_size file i) (length file) h in
+    length-take-le (sh_size file i) (drop (sh_offset file i) file)
+    (omega (arith, length-drop (sh_offset file i) file, end))
 
 section_is_piece : (file : List ℕ) → RightFile file → (i : ℕ) → is_kept file i ≡ true
     → is_piece (piece_of_section file i) ≡ true
 section_is_piece file right i h =
-    let fine = or_parts (not (sh_addralign file i == 0 || is_alignment (sh_addralign file i)) || nat_lt 8388608 (sh_size file i)) (not (is_nobits file i) && not (lies_in_file file i))
+    let fine =
+    or_parts (not (sh_addralign file i == 0 || is_alignment (sh_addralign file i))
+    || nat_lt 8388608 (sh_size file i)) (not (is_nobits file i) && not (lies_in_file file i))
     (rw h at (right.sections i (section_number file i (kept_section file i h)))) in
-    let small = or_parts (not (sh_addralign file i == 0 || is_alignment (sh_addralign file i))) (nat_lt 8388608 (sh_size file i)) fine.0 in
+    let small =
+    or_parts (not (sh_addralign file i == 0 || is_alignment (sh_addralign file i)))
+    (nat_lt 8388608 (sh_size file i)) fine.0 in
     and_from _ _
     (and_from _ _ (le-leb (sh_size file i) 8388608 (ltb-false 8388608 (sh_size file i) small.1))
     (aligned (sh_addralign file i) (not-false _ small.0)))
     (bytes (is_nobits file i) refl fine.1)
   where
     bytes : (b : Bool) → is_nobits file i ≡ b → (not b && not (lies_in_file file i)) ≡ false
-        → (length (cond b [] (section_bytes file i)) == cond (is_zeros (cond b Zeros (cond (has_flag file i 4) Code (cond (has_flag file i 1) Vars Consts)))) 0 (sh_size file i)) ≡ true
+        → (length (cond b [] (section_bytes file i)) == cond
+        (is_zeros
+        (cond b Zeros (cond (has_flag file i 4) Code (cond (has_flag file i 1) Vars Consts)))) 0
+        (sh_size file i)) ≡ true
     bytes true e k = refl
     bytes false e k =
         rw (loaded (has_flag file i 4) (has_flag file i 1))
-        (eq-eqb (length (section_bytes file i)) (sh_size file i) (filled file i (not-false (lies_in_file file i) k)))
+        (eq-eqb (length (section_bytes file i)) (sh_size file i)
+        (filled file i (not-false (lies_in_file file i) k)))
 
 symbol_is_piece : (file : List ℕ) → RightFile file → (k : ℕ) → IsSymbolNumber file k
     → is_common file k ≡ true → is_piece (piece_of_common file k) ≡ true
 symbol_is_piece file right k within h =
     let common = (right_symbol file right k within).common in
-    let parts = and_parts (st_value file k == 0 || is_alignment (st_value file k)) (nat_le (st_size file k) 8388608) (rw h at common) in
+    let parts =
+    and_parts (st_value file k == 0 || is_alignment (st_value file k))
+    (nat_le (st_size file k) 8388608) (rw h at common) in
     and_from _ _ (and_from _ _ parts.1 (aligned (st_value file k) parts.0)) refl
 
 pub are_pieces : (file : List ℕ) → RightFile file → list_all is_piece (pieces_of file) ≡ true
 are_pieces file right =
-    list_all-append is_piece (map (piece_of_section file) (kept_sections file)) (map (piece_of_common file) (filter (is_common file) (symbols file)))
+    list_all-append is_piece (map (piece_of_section file) (kept_sections file))
+    (map (piece_of_common file) (filter (is_common file) (symbols file)))
     ∙ and_from _ _
     (list_all-map is_piece (piece_of_section file) (kept_sections file)
-    ∙ all_filtered (is_kept file) (λ i. is_piece (piece_of_section file i)) 1 (e_shnum file - 1) (λ i within h. section_is_piece file right i h))
+    ∙ all_filtered (is_kept file) (λ i. is_piece (piece_of_section file i)) 1 (e_shnum file - 1)
+    (λ i within h. section_is_piece file right i h))
     (list_all-map is_piece (piece_of_common file) (filter (is_common file) (symbols file))
-    ∙ all_filtered (is_common file) (λ k. is_piece (piece_of_common file k)) 1 (symbol_count file - 1) (symbol_is_piece file right))
+    ∙ all_filtered (is_common file) (λ k. is_piece (piece_of_common file k)) 1
+    (symbol_count file - 1) (symbol_is_piece file right))
 
 pub few_pieces : (file : List ℕ) → RightFile file → length (pieces_of file) ≤ 69631
 few_pieces file right =
     let ps = map (piece_of_section file) (kept_sections file) in
     let qs = map (piece_of_common file) (filter (is_common file) (symbols file)) in
     let both : length (ps ++ qs) ≡ length ps + length qs = length-append ps qs in
-    let a : length ps ≡ length (kept_sections file) = length-map (piece_of_section file) (kept_sections file) in
-    let b : length qs ≡ length (filter (is_common file) (symbols file)) = length-map (piece_of_common file) (filter (is_common file) (symbols file)) in
-    let c : length (kept_sections file) ≤ e_shnum file - 1 = length_filtered (is_kept file) 1 (e_shnum file - 1) in
-    let d : length (filter (is_common file) (symbols file)) ≤ symbol_count file - 1 = length_filtered (is_common file) 1 (symbol_count file - 1) in
+    let a : length ps ≡ length (kept_sections file) =
+    length-map (piece_of_section file) (kept_sections file) in
+    let b : length qs ≡ length (filter (is_common file) (symbols file)) =
+    length-map (piece_of_common file) (filter (is_common file) (symbols file)) in
+    let c : length (kept_sections file) ≤ e_shnum file - 1 =
+    length_filtered (is_kept file) 1 (e_shnum file - 1) in
+    let d : length (filter (is_common file) (symbols file)) ≤ symbol_count file - 1 =
+    length_filtered (is_common file) 1 (symbol_count file - 1) in
     omega (arith, right.few_sections, right.few_symbols)
 
 -- ---- where each is
@@ -115,23 +136,30 @@ slice_get_right : {X : Type 0} (xs ys : List X) (n : ℕ)
     → slice_get (xs ++ ys) (length xs + n) ≡ slice_get ys n
 slice_get_right [] ys n = let e : zero + n ≡ n = omega arith in ap (slice_get ys) e
 slice_get_right (x ∷ xs) ys n =
-    let e : suc (length xs) + n ≡ suc (length xs + n) = omega arith in ap (slice_get (x ∷ xs ++ ys)) e ∙ slice_get_right xs ys n
+    let e : suc (length xs) + n ≡ suc (length xs + n) =
+    omega arith in ap (slice_get (x ∷ xs ++ ys)) e ∙ slice_get_right xs ys n
 
 -- what is made of the number n of those that pass is at the place that those before it give
 made_at : {X : Type 0} (q : ℕ → Bool) (f : ℕ → X) (c n : ℕ) → InRange 1 c n → q n ≡ true
-    → slice_get (map f (filter q (numbers_from 1 c))) (count_by q (numbers_from 1 (n - 1))) ≡ Some (f n)
+    → slice_get (map f (filter q (numbers_from 1 c))) (count_by q (numbers_from 1 (n - 1)))
+    ≡ Some (f n)
 made_at q f c n within h =
     let same : 1 + (n - 1) ≡ n = omega (arith, within.low) in
-    ap (slice_get (map f (filter q (numbers_from 1 c)))) (sym (length-filter q (numbers_from 1 (n - 1))))
+    ap (slice_get (map f (filter q (numbers_from 1 c))))
+    (sym (length-filter q (numbers_from 1 (n - 1))))
     ∙ slice_get-map f (filter q (numbers_from 1 c)) (length (filter q (numbers_from 1 (n - 1))))
-    ∙ ap (option_map f) (at_filtered q 1 c (n - 1) (omega (arith, within.low, within.high)) (ap q same ∙ h))
+    ∙ ap (option_map f)
+    (at_filtered q 1 c (n - 1) (omega (arith, within.low, within.high)) (ap q same ∙ h))
     ∙ ap (λ m. Some (f m)) same
 
 pub section_there : (file : List ℕ) (i : ℕ) → is_kept file i ≡ true
     → slice_get (pieces_of file) (section_piece file i) ≡ Some (piece_of_section file i)
 section_there file i h =
-    slice_get_left (map (piece_of_section file) (kept_sections file)) (map (piece_of_common file) (filter (is_common file) (symbols file))) (section_piece file i) (piece_of_section file i)
-    (made_at (is_kept file) (piece_of_section file) (e_shnum file - 1) i (section_number file i (kept_section file i h)) h)
+    slice_get_left (map (piece_of_section file) (kept_sections file))
+    (map (piece_of_common file) (filter (is_common file) (symbols file))) (section_piece file i)
+    (piece_of_section file i)
+    (made_at (is_kept file) (piece_of_section file) (e_shnum file - 1) i
+    (section_number file i (kept_section file i h)) h)
 
 pub common_there : (file : List ℕ) (k : ℕ) → IsSymbolNumber file k → is_common file k ≡ true
     → slice_get (pieces_of file) (common_piece file k) ≡ Some (piece_of_common file k)
@@ -139,6 +167,7 @@ common_there file k within h =
     let ps = map (piece_of_section file) (kept_sections file) in
     let qs = map (piece_of_common file) (filter (is_common file) (symbols file)) in
     let before = count_by (is_common file) (numbers_from 1 (k - 1)) in
-    ap (λ n. slice_get (ps ++ qs) (n + before)) (sym (length-map (piece_of_section file) (kept_sections file)))
+    ap (λ n. slice_get (ps ++ qs) (n + before))
+    (sym (length-map (piece_of_section file) (kept_sections file)))
     ∙ slice_get_right ps qs before
     ∙ made_at (is_common file) (piece_of_common file) (symbol_count file - 1) k within h

@@ -16,7 +16,11 @@ pub record InRange (start count n : ℕ) : Type 0 where
 -- a number of a run is its first, or one of the rest
 in_rest : (s c n : ℕ) → InRange s (suc c) n → (n ≡ s) ⊎ InRange (s + 1) c n
 in_rest s c n h =
-    elim (cases_eq n s) [ inl e ↦ inl e | inr d ↦ inr (record { low = omega (arith, h.low); high = omega (arith, h.high) }) ]
+    elim (cases_eq n s) [
+      | inl e ↦ inl e
+      | inr d ↦ inr
+          (record { low = omega (arith, h.low); high = omega (arith, h.high) })
+    ]
 
 pub first_in : (s c : ℕ) → InRange s (suc c) s
 first_in s c = record { low = omega arith; high = omega arith }
@@ -72,7 +76,9 @@ all_filtered q t s (suc c) h =
     go (q s) refl (all_filtered q t (s + 1) c (λ n i. h n (rest_in s c n i)))
   where
     go : (b : Bool) → q s ≡ b → list_all t (filter q (numbers_from (s + 1) c)) ≡ true
-        → list_all t (cond b (s ∷ filter q (numbers_from (s + 1) c)) (filter q (numbers_from (s + 1) c))) ≡ true
+        → list_all t
+        (cond b (s ∷ filter q (numbers_from (s + 1) c)) (filter q (numbers_from (s + 1) c)))
+        ≡ true
     go true d i = and_from _ _ (h s (first_in s c) d) i
     go false d i = i
 
@@ -81,7 +87,8 @@ length_filtered q s zero = omega arith
 length_filtered q s (suc c) = go (q s) (length_filtered q (s + 1) c)
   where
     go : (b : Bool) → length (filter q (numbers_from (s + 1) c)) ≤ c
-        → length (cond b (s ∷ filter q (numbers_from (s + 1) c)) (filter q (numbers_from (s + 1) c))) ≤ suc c
+        → length (cond b (s ∷ filter q (numbers_from (s + 1) c))
+        (filter q (numbers_from (s + 1) c))) ≤ suc c
     go true i = omega (arith, i)
     go false i = omega (arith, i)
 
@@ -97,9 +104,12 @@ at_filtered q s (suc c) (suc d) h e =
     go (q s) (at_filtered q (s + 1) c d (omega (arith, h)) (ap q same ∙ e) ∙ ap Some same)
   where
     go : (b : Bool)
-        → slice_get (filter q (numbers_from (s + 1) c)) (length (filter q (numbers_from (s + 1) d))) ≡ Some (s + suc d)
-        → slice_get (cond b (s ∷ filter q (numbers_from (s + 1) c)) (filter q (numbers_from (s + 1) c)))
-        (length (cond b (s ∷ filter q (numbers_from (s + 1) d)) (filter q (numbers_from (s + 1) d))))
+        → slice_get (filter q (numbers_from (s + 1) c)) (length (filter q (numbers_from (s + 1) d)))
+        ≡ Some (s + suc d)
+        → slice_get
+        (cond b (s ∷ filter q (numbers_from (s + 1) c)) (filter q (numbers_from (s + 1) c)))
+        (length (cond b (s ∷ filter q (numbers_from (s + 1) d))
+        (filter q (numbers_from (s + 1) d))))
         ≡ Some (s + suc d)
     go true i = i
     go false i = i
@@ -121,7 +131,9 @@ pub total_bound : (q : ℕ → Bool) (size : ℕ → ℕ) (most c : ℕ)
     → sum_by size (filter q (numbers_from 1 c)) ≤ most
 total_bound q size most zero h = omega arith
 total_bound q size most (suc c) h =
-    go (q (1 + c)) refl (total_bound q size most c (λ i r. h i (record { low = r.low; high = omega (arith, r.high) })))
+    go (q (1 + c)) refl
+    (total_bound q size most c
+    (λ i r. h i (record { low = r.low; high = omega (arith, r.high) })))
   where
     go : (b : Bool) → q (1 + c) ≡ b → sum_by size (filter q (numbers_from 1 c)) ≤ most
         → sum_by size (filter q (numbers_from 1 (suc c))) ≤ most
@@ -137,7 +149,8 @@ pairs count is = flat_map (λ i. map (λ j. (i, j)) (numbers_from 0 (count i))) 
 
 pub length-numbers_from : (s c : ℕ) → length (numbers_from s c) ≡ c
 length-numbers_from s zero = refl
-length-numbers_from s (suc c) = let e : length (numbers_from (s + 1) c) ≡ c = length-numbers_from (s + 1) c in omega (arith, e)
+length-numbers_from s (suc c) = let e : length (numbers_from (s + 1) c) ≡ c =
+    length-numbers_from (s + 1) c in omega (arith, e)
 
 pub length-map : {X Y : Type 0} (f : X → Y) (xs : List X) → length (map f xs) ≡ length xs
 length-map f [] = refl
@@ -147,7 +160,9 @@ pub length-pairs : (count : ℕ → ℕ) (is : List ℕ) → length (pairs count
 length-pairs count [] = refl
 length-pairs count (i ∷ is) =
     length-append (map (λ j. (i, j)) (numbers_from 0 (count i))) (pairs count is)
-    ∙ ap (λ n. n + length (pairs count is)) (length-map (λ (j : ℕ). (i, j)) (numbers_from 0 (count i)) ∙ length-numbers_from 0 (count i))
+    ∙ ap (λ n. n + length (pairs count is))
+    (length-map (λ (j : ℕ). (i, j)) (numbers_from 0 (count i))
+    ∙ length-numbers_from 0 (count i))
     ∙ ap (λ n. count i + n) (length-pairs count is)
     ∙ sym (sum_by-cons count i is)
 
@@ -159,12 +174,17 @@ all_pairs q count t s (suc c) h =
     go (q s) refl (all_pairs q count t (s + 1) c (λ i j r. h i j (rest_in s c i r)))
   where
     go : (b : Bool) → q s ≡ b → list_all t (pairs count (filter q (numbers_from (s + 1) c))) ≡ true
-        → list_all t (pairs count (cond b (s ∷ filter q (numbers_from (s + 1) c)) (filter q (numbers_from (s + 1) c)))) ≡ true
+        → list_all t
+        (pairs count
+        (cond b (s ∷ filter q (numbers_from (s + 1) c)) (filter q (numbers_from (s + 1) c))))
+        ≡ true
     go true d i =
-        list_all-append t (map (λ j. (s, j)) (numbers_from 0 (count s))) (pairs count (filter q (numbers_from (s + 1) c)))
+        list_all-append t (map (λ j. (s, j)) (numbers_from 0 (count s)))
+        (pairs count (filter q (numbers_from (s + 1) c)))
         ∙ and_from _ _
         (list_all-map t (λ (j : ℕ). (s, j)) (numbers_from 0 (count s))
-        ∙ all_range (λ j. t (s, j)) 0 (count s) (λ j r. h s j (first_in s c) d (omega (arith, r.high))))
+        ∙ all_range (λ j. t (s, j)) 0 (count s)
+        (λ j r. h s j (first_in s c) d (omega (arith, r.high))))
         i
     go false d i = i
 

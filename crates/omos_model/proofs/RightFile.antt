@@ -52,11 +52,13 @@ unmapped f None e = refl
 unmapped f (Some x) e = cc
 
 symbols_bound : (file is : List ℕ) → are_right_symtabs file is ≡ true
-    → cond (unwrap_or (slice_get is 0) 0 == 0) 0 (sh_size file (unwrap_or (slice_get is 0) 0) / 24) ≤ 65535
+    → cond (unwrap_or (slice_get is 0) 0 == 0) 0 (sh_size file (unwrap_or (slice_get is 0) 0) / 24)
+    ≤ 65535
 symbols_bound file [] h = omega arith
 symbols_bound file (i ∷ []) h =
     cond_both (i == 0) 0 (sh_size file i / 24) (λ n. n ≤ 65535) (λ e. omega arith)
-    (λ e. leb-true (sh_size file i / 24) 65535 (and_parts _ _ (and_parts _ _ (and_parts _ _ h).0).0).1)
+    (λ e. leb-true (sh_size file i / 24) 65535
+    (and_parts _ _ (and_parts _ _ (and_parts _ _ h).0).0).1)
 symbols_bound file (i ∷ j ∷ more) h = cc
 
 pub right_file : (file : List ℕ) → object_fault file ≡ None → RightFile file
@@ -66,15 +68,33 @@ right_file file h =
     let kept = headers.1.1.1 in
     let tables = kept.1.1.1 in
     let named = tables.1 in
-    let has = and_parts (e_shentsize file == 64 && nat_lt 0 (e_shnum file) && nat_le (e_shnum file) 4096) (nat_le (e_shoff file + 64 * e_shnum file) (length file)) (fine (has_headers file) fault.Headers kept.0) in
+    let has =
+    and_parts (e_shentsize file == 64 && nat_lt 0 (e_shnum file) && nat_le (e_shnum file) 4096)
+    (nat_le (e_shoff file + 64 * e_shnum file) (length file))
+    (fine (has_headers file) fault.Headers kept.0) in
     record {
-      few_sections = leb-true (e_shnum file) 4096 (and_parts (e_shentsize file == 64 && nat_lt 0 (e_shnum file)) (nat_le (e_shnum file) 4096) has.0).1;
-      few_symbols = symbols_bound file (symtabs file) (fine (are_right_symtabs file (symtabs file)) fault.Symbols tables.0);
-      sections = find_none (is_wrong_section file) 1 (e_shnum file - 1) (unmapped fault.Section (find (is_wrong_section file) (sections file)) kept.1.0);
-      symbols = find_none (is_wrong_symbol file) 1 (symbol_count file - 1) (unmapped fault.Symbol (find (is_wrong_symbol file) (symbols file)) named.0);
-      names = find_none (is_again file) 1 (symbol_count file - 1) (unmapped (λ (k : ℕ). fault.Twice (name_of file k)) (find (is_again file) (symbols file)) named.1.0);
-      relas = find_none (is_wrong_rela file) 1 (e_shnum file - 1) (unmapped fault.Relas (find (is_wrong_rela file) (sections file)) named.1.1.0);
-      entries = none_found (is_wrong_entry file) (entries file) (unmapped (λ (e : ℕ × ℕ). fault.Rela e.0 e.1) (find (is_wrong_entry file) (entries file)) named.1.1.1.0);
+      few_sections =
+          leb-true (e_shnum file) 4096
+          (and_parts (e_shentsize file == 64 && nat_lt 0 (e_shnum file))
+          (nat_le (e_shnum file) 4096) has.0).1;
+      few_symbols =
+          symbols_bound file (symtabs file)
+          (fine (are_right_symtabs file (symtabs file)) fault.Symbols tables.0);
+      sections =
+          find_none (is_wrong_section file) 1 (e_shnum file - 1)
+          (unmapped fault.Section (find (is_wrong_section file) (sections file)) kept.1.0);
+      symbols =
+          find_none (is_wrong_symbol file) 1 (symbol_count file - 1)
+          (unmapped fault.Symbol (find (is_wrong_symbol file) (symbols file)) named.0);
+      names = find_none (is_again file) 1 (symbol_count file - 1)
+          (unmapped (λ (k : ℕ). fault.Twice (name_of file k)) (find (is_again file) (symbols file))
+          named.1.0);
+      relas = find_none (is_wrong_rela file) 1 (e_shnum file - 1)
+          (unmapped fault.Relas (find (is_wrong_rela file) (sections file)) named.1.1.0);
+      entries =
+          none_found (is_wrong_entry file) (entries file)
+          (unmapped (λ (e : ℕ × ℕ). fault.Rela e.0 e.1) (find (is_wrong_entry file) (entries file))
+          named.1.1.1.0);
     }
 
 -- ---- a symbol that is right

@@ -34,18 +34,22 @@ look_up-with_entry (x ∷ xs) s p = go (name_cmp s.path x.path) refl (look_up-wi
   where
     go : (o : Ordering) → name_cmp s.path x.path ≡ o
         → look_up (with_entry xs s) p ≡ cond (same_name p s.path) (Some s) (look_up xs p)
-        → look_up (match_ordering o (s ∷ x ∷ xs) (s ∷ xs) (x ∷ with_entry xs s)) p ≡ cond (same_name p s.path) (Some s) (look_up (x ∷ xs) p)
+        → look_up (match_ordering o (s ∷ x ∷ xs) (s ∷ xs) (x ∷ with_entry xs s)) p
+        ≡ cond (same_name p s.path) (Some s) (look_up (x ∷ xs) p)
     go Less e i = refl
     go Equal e i = again (same_name p s.path) refl
       where
         again : (b : Bool) → same_name p s.path ≡ b
-            → cond b (Some s) (look_up xs p) ≡ cond b (Some s) (cond (same_name p x.path) (Some x) (look_up xs p))
+            → cond b (Some s) (look_up xs p)
+            ≡ cond b (Some s) (cond (same_name p x.path) (Some x) (look_up xs p))
         again true d = refl
         again false d = rw (sym (ap (same_name p) (exact_bytes s.path x.path e)) ∙ d) refl
     go Greater e i =
         ap (λ o. cond (same_name p x.path) (Some x) o) i
         ∙ swapped (same_name p x.path) (same_name p s.path) x s (look_up xs p)
-        (λ a b. true≢false (sym (same_name-refl s.path x.path (sym (same_name-true p s.path b) ∙ same_name-true p x.path a)) ∙ sym (is_eq-name_cmp s.path x.path) ∙ ap is_eq e))
+        (λ a b. true≢false
+        (sym (same_name-refl s.path x.path (sym (same_name-true p s.path b)
+        ∙ same_name-true p x.path a)) ∙ sym (is_eq-name_cmp s.path x.path) ∙ ap is_eq e))
 
 option_or_find : {X : Type 0} (f o : Option X) (b : Bool) (x : X)
     → option_or f (cond b (Some x) o) ≡ option_or (option_or f (cond b (Some x) None)) o
@@ -54,12 +58,14 @@ option_or_find None o true x = refl
 option_or_find None o false x = refl
 
 after_all : (ss : List Stamped) (ns : Space) (p : Name)
-    → look_up (fold with_entry ns ss) p ≡ option_or (find (λ s. same_name p s.path) (reverse ss)) (look_up ns p)
+    → look_up (fold with_entry ns ss) p ≡ option_or (find (λ s. same_name p s.path) (reverse ss))
+    (look_up ns p)
 after_all [] ns p = refl
 after_all (s ∷ ss) ns p =
     let test : Stamped → Bool = λ t. same_name p t.path in
     let back : reverse (s ∷ ss) ≡ reverse ss ++ s ∷ [] = reverse-append (s ∷ []) ss in
-    let found : find test (reverse (s ∷ ss)) ≡ option_or (find test (reverse ss)) (cond (test s) (Some s) None) =
+    let found : find test (reverse (s ∷ ss))
+    ≡ option_or (find test (reverse ss)) (cond (test s) (Some s) None) =
     ap (find test) back ∙ find-append test (reverse ss) (s ∷ []) in
     after_all ss (with_entry ns s) p
     ∙ ap (λ o. option_or (find test (reverse ss)) o) (look_up-with_entry ns s p)
@@ -93,7 +99,8 @@ above-with_entry p (x ∷ xs) s e h = go (name_cmp s.path x.path) (above-with_en
     go Equal i = (e, h.1)
     go Greater i = (h.0, i)
 
-pub IsStrictlySortedBy-with_entry : (ns : Space) (s : Stamped) → IsStrictlySortedBy name_cmp (paths ns)
+pub IsStrictlySortedBy-with_entry : (ns : Space) (s : Stamped)
+    → IsStrictlySortedBy name_cmp (paths ns)
     → IsStrictlySortedBy name_cmp (paths (with_entry ns s))
 unfolding IsStrictlySortedBy
 IsStrictlySortedBy-with_entry [] s h = (tt, tt)
@@ -102,10 +109,15 @@ IsStrictlySortedBy-with_entry (x ∷ xs) s h =
   where
     go : (o : Ordering) → name_cmp s.path x.path ≡ o
         → IsStrictlySortedBy name_cmp (paths (with_entry xs s))
-        → IsStrictlySortedBy name_cmp (paths (match_ordering o (s ∷ x ∷ xs) (s ∷ xs) (x ∷ with_entry xs s)))
+        → IsStrictlySortedBy name_cmp
+        (paths (match_ordering o (s ∷ x ∷ xs) (s ∷ xs) (x ∷ with_entry xs s)))
     go Less e i = ((e, above-trans s.path x.path (paths xs) e h.0), h)
     go Equal e i = (subst (λ p. Above p (paths xs)) (sym (exact_bytes s.path x.path e)) h.0, h.1)
-    go Greater e i = (above-with_entry x.path xs s (nat_list_cmp_total.antisymm x.path s.path ∙ ap ordering_reverse e) h.0, i)
+    go Greater e i = (
+      above-with_entry x.path xs s (nat_list_cmp_total.antisymm x.path s.path
+          ∙ ap ordering_reverse e) h.0,
+      i,
+    )
 
 sorted_after_all : (ss : List Stamped) (ns : Space) → IsStrictlySortedBy name_cmp (paths ns)
     → IsStrictlySortedBy name_cmp (paths (fold with_entry ns ss))
@@ -146,7 +158,8 @@ next_version_law puts path entry =
     ∙ ap (fold with_entry []) (stamped_from-append 1 puts (put ∷ []))
     ∙ fold-append with_entry [] (stamped_from 1 puts) (stamped_from (1 + length puts) (put ∷ []))
     ∙ ap (λ n. with_entry (made_of puts) (record { path = path; stamp = n; entry = entry })) stamp
-    ∙ ap (λ ps. with_entry (made_of ps) (record { path = path; stamp = length puts + 1; entry = entry })) (sym old)
+    ∙ ap (λ ps. with_entry (made_of ps)
+    (record { path = path; stamp = length puts + 1; entry = entry })) (sym old)
 
 pub old_versions_law : OldVersionsLaw
 old_versions_law puts more v h = ap made_of (take-append-le v puts more h)

@@ -49,9 +49,13 @@ pub has_leaf_where : (t : Term) (leaf k : ℕ) → is_some (state t leaf k) ≡ 
 has_leaf_where (Leaf s number f) leaf k h =
     cond_some (leaf == number) (mark_at number f.fixups k) h
 has_leaf_where (Merge s l r) leaf k h =
-    rw list_any-append (or_some (state l leaf k) (state r leaf k) _ _ (has_leaf_where l leaf k) (has_leaf_where r leaf k) h)
+    rw list_any-append
+    (or_some (state l leaf k) (state r leaf k) _ _ (has_leaf_where l leaf k)
+    (has_leaf_where r leaf k) h)
 has_leaf_where (Override s l r) leaf k h =
-    rw list_any-append (or_some (state l leaf k) (state r leaf k) _ _ (has_leaf_where l leaf k) (has_leaf_where r leaf k) h)
+    rw list_any-append
+    (or_some (state l leaf k) (state r leaf k) _ _ (has_leaf_where l leaf k)
+    (has_leaf_where r leaf k) h)
 has_leaf_where (Apply s op u) leaf k h =
     has_leaf_where u leaf k (sym (option_map_some _ (state u leaf k)) ∙ h)
 
@@ -78,7 +82,8 @@ pub hide_law : HideLaw
 hide_law s q r a t = record {
   names = λ n. refl;
   references = λ leaf k.
-      option_map_with _ _ _ (state t leaf k) (λ m. hide-mark a (definition t) m ∙ sym (restrict-mark a (definition t) (marked_by (Freeze a) (definition t) m)));
+      option_map_with _ _ _ (state t leaf k) (λ m. hide-mark a (definition t) m
+      ∙ sym (restrict-mark a (definition t) (marked_by (Freeze a) (definition t) m)));
 }
 
 -- ---- leaves that stand apart
@@ -105,12 +110,14 @@ not_both true true p q h k e = sym (and_from p q (h refl) (k refl)) ∙ e
 apart_states : (l r : Term) (leaf k : ℕ) → IsTrue (are_apart l r)
     → (is_some (state l leaf k) && is_some (state r leaf k)) ≡ false
 apart_states l r leaf k h =
-    not_both _ _ (has_leaf l leaf) (has_leaf r leaf) (has_leaf_where l leaf k) (has_leaf_where r leaf k) (apart_at (leaf_numbers l) r leaf h)
+    not_both _ _ (has_leaf l leaf) (has_leaf r leaf) (has_leaf_where l leaf k)
+    (has_leaf_where r leaf k) (apart_at (leaf_numbers l) r leaf h)
 
 pub merge_law : MergeLaw
 merge_law s q l r apart none = record {
   names = λ n. option_or_swaps (definition l n) (definition r n) (none n);
-  references = λ leaf k. option_or_swaps (state l leaf k) (state r leaf k) (apart_states l r leaf k apart);
+  references =
+      λ leaf k. option_or_swaps (state l leaf k) (state r leaf k) (apart_states l r leaf k apart);
 }
 
 -- ---- restrictions
@@ -119,7 +126,9 @@ restrict_each-state : (s : Site) (ns : List Name) (t : Term) (leaf k : ℕ)
     → state (restrict_each s ns t) leaf k ≡ state t leaf k
 restrict_each-state s [] t leaf k = refl
 restrict_each-state s (n ∷ ns) t leaf k =
-    option_map_id _ (state (restrict_each s ns t) leaf k) (λ m. restrict-mark n (definition (restrict_each s ns t)) m) ∙ restrict_each-state s ns t leaf k
+    option_map_id _ (state (restrict_each s ns t) leaf k)
+    (λ m. restrict-mark n (definition (restrict_each s ns t)) m)
+    ∙ restrict_each-state s ns t leaf k
 
 cond_or : {X : Type 0} (a b : Bool) (o : Option X)
     → cond a None (cond b None o) ≡ cond (a || b) None o
@@ -130,7 +139,8 @@ restrict_each-definition : (s : Site) (ns : List Name) (t : Term) (n : Name)
     → definition (restrict_each s ns t) n ≡ cond (is_among ns n) None (definition t n)
 restrict_each-definition s [] t n = refl
 restrict_each-definition s (m ∷ ns) t n =
-    rw (restrict_each-definition s ns t n, same_name-swap m n) (cond_or (same_name n m) (is_among ns n) (definition t n))
+    rw (restrict_each-definition s ns t n, same_name-swap m n)
+    (cond_or (same_name n m) (is_among ns n) (definition t n))
 
 -- what a filter keeps passes its test
 neither : (a b : Bool) → (a || b) ≡ false → (a ≡ false) × (b ≡ false)
@@ -145,7 +155,8 @@ among_filter test (m ∷ ns) n h = go (test m) (same_name n m) refl refl (among_
     go : (b c : Bool) → test m ≡ b → same_name n m ≡ c → is_among (filter test ns) n ≡ false
         → is_among (cond b (m ∷ filter test ns) (filter test ns)) n ≡ false
     go false c e d i = i
-    go true true e d i = let q : n ≡ m = same_name-true n m d in let f : test n ≡ true = rw q e in cc
+    go true true e d i = let q : n ≡ m = same_name-true n m d in let f : test n ≡ true =
+        rw q e in cc
     go true false e d i = rw d i
 
 or_cond : {X : Type 0} (o p : Option X) (b : Bool) → (is_some o ≡ false → b ≡ false)
@@ -170,7 +181,8 @@ pub override_law : OverrideLaw
 override_law s q p l r apart = record {
   names = λ n. rw (restrict_each-definition p (shared l r) l n)
       (or_cond (definition r n) (definition l n) _
-      (λ e. among_distinct (filter (both_define l r) (written l)) n (among_filter _ (written l) n (and_right _ _ e))));
+      (λ e. among_distinct (filter (both_define l r) (written l)) n
+      (among_filter _ (written l) n (and_right _ _ e))));
   references = λ leaf k. rw (restrict_each-state p (shared l r) l leaf k)
       (option_or_swaps (state l leaf k) (state r leaf k) (apart_states l r leaf k apart));
 }
@@ -181,7 +193,8 @@ in_rows-append : (xs ys : List MarkRow) (leaf k : ℕ)
     → in_rows (xs ++ ys) leaf k ≡ option_or (in_rows xs leaf k) (in_rows ys leaf k)
 in_rows-append [] ys leaf k = refl
 in_rows-append (x ∷ xs) ys leaf k =
-    rw (in_rows-append xs ys leaf k) (sym (option_or_assoc (in_row x leaf k) (in_rows xs leaf k) (in_rows ys leaf k)))
+    rw (in_rows-append xs ys leaf k)
+    (sym (option_or_assoc (in_row x leaf k) (in_rows xs leaf k) (in_rows ys leaf k)))
 
 option_map_or : {X Y : Type 0} (f : X → Y) (a b : Option X)
     → option_map f (option_or a b) ≡ option_or (option_map f a) (option_map f b)
@@ -198,7 +211,8 @@ in_row-remarked : (f : Mark → Mark) (r : MarkRow) (leaf k : ℕ)
     → in_row (remarked f r) leaf k ≡ option_map f (in_row r leaf k)
 in_row-remarked f r leaf k = go (leaf == r.number)
   where
-    go : (b : Bool) → cond b (slice_get (map f r.marks) k) None ≡ option_map f (cond b (slice_get r.marks k) None)
+    go : (b : Bool) → cond b (slice_get (map f r.marks) k) None
+        ≡ option_map f (cond b (slice_get r.marks k) None)
     go true = slice_get-map f r.marks k
     go false = refl
 
@@ -206,17 +220,21 @@ in_rows-remarked : (f : Mark → Mark) (rows : List MarkRow) (leaf k : ℕ)
     → in_rows (map (remarked f) rows) leaf k ≡ option_map f (in_rows rows leaf k)
 in_rows-remarked f [] leaf k = refl
 in_rows-remarked f (r ∷ rows) leaf k =
-    rw (in_row-remarked f r leaf k, in_rows-remarked f rows leaf k) (sym (option_map_or f (in_row r leaf k) (in_rows rows leaf k)))
+    rw (in_row-remarked f r leaf k, in_rows-remarked f rows leaf k)
+    (sym (option_map_or f (in_row r leaf k) (in_rows rows leaf k)))
 
 -- the state of a reference is what the list of all has for it
 pub state-in_rows : StatesLaw
 state-in_rows (Leaf s number f) leaf k =
-    sym (option_or_None (cond (leaf == number) (slice_get (map (λ x. mark_of number x.aim) f.fixups) k) None)
+    sym (option_or_None
+    (cond (leaf == number) (slice_get (map (λ x. mark_of number x.aim) f.fixups) k) None)
     ∙ ap (λ o. cond (leaf == number) o None) (slice_get-map (λ x. mark_of number x.aim) f.fixups k))
 state-in_rows (Merge s l r) leaf k =
-    rw (state-in_rows l leaf k, state-in_rows r leaf k) (sym (in_rows-append (states l) (states r) leaf k))
+    rw (state-in_rows l leaf k, state-in_rows r leaf k)
+    (sym (in_rows-append (states l) (states r) leaf k))
 state-in_rows (Override s l r) leaf k =
-    rw (state-in_rows l leaf k, state-in_rows r leaf k) (sym (in_rows-append (states l) (states r) leaf k))
+    rw (state-in_rows l leaf k, state-in_rows r leaf k)
+    (sym (in_rows-append (states l) (states r) leaf k))
 state-in_rows (Apply s op u) leaf k =
     rw (state-in_rows u leaf k) (sym (in_rows-remarked _ (states u) leaf k))
 

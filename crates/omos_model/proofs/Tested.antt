@@ -23,18 +23,24 @@ five : {P Q R S T : Type 0} (p q r s t : Bool) → Decides p P → Decides q Q �
     → Decides s S → Decides t T
     → Decides (p && q && r && s && t) (P × Q × R × S × T)
 five {P} {Q} {R} {S} {T} p q r s t a b c d e =
-    Decides-like (p && q && r && s && t) (λ h. (h.0.0.0.0, h.0.0.0.1, h.0.0.1, h.0.1, h.1)) (λ h. ((((h.0, h.1), h.2), h.3), h.4))
-    (Decides-and (p && q && r && s) t (Decides-and (p && q && r) s (Decides-and (p && q) r (Decides-and p q a b) c) d) e)
+    Decides-like (p && q && r && s && t) (λ h. (h.0.0.0.0, h.0.0.0.1, h.0.0.1, h.0.1, h.1))
+    (λ h. ((((h.0, h.1), h.2), h.3), h.4))
+    (Decides-and (p && q && r && s) t
+    (Decides-and (p && q && r) s (Decides-and (p && q) r (Decides-and p q a b) c) d) e)
 
 byte_law : (b : ℕ) → Decides (is_name_byte b) (IsNameByte b)
 byte_law b =
-    five _ _ _ _ _ (Decides-or (nat_le 33 b && nat_le b 126) (nat_le 128 b && nat_le b 255) (within 33 126 b) (within 128 255 b))
+    five _ _ _ _ _
+    (Decides-or (nat_le 33 b && nat_le b 126) (nat_le 128 b && nat_le b 255) (within 33 126 b)
+    (within 128 255 b))
     (barred b 34) (barred b 40) (barred b 41) (barred b 59)
 
 bytes_law : (bs : List ℕ) → Decides (list_all is_name_byte bs) (All IsNameByte bs)
-bytes_law = Decides-by_and is_name_byte IsNameByte (list_all is_name_byte) byte_law refl (λ _ _. refl)
+bytes_law =
+    Decides-by_and is_name_byte IsNameByte (list_all is_name_byte) byte_law refl (λ _ _. refl)
 
 pub name_law : NameLaw
 name_law bs =
     Decides-and (nat_le 1 (length bs) && nat_le (length bs) 1024) (list_all is_name_byte bs)
-    (Decides-and (nat_le 1 (length bs)) (nat_le (length bs) 1024) (leb_law 1 (length bs)) (leb_law (length bs) 1024)) (bytes_law bs)
+    (Decides-and (nat_le 1 (length bs)) (nat_le (length bs) 1024) (leb_law 1 (length bs))
+    (leb_law (length bs) 1024)) (bytes_law bs)

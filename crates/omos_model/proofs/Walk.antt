@@ -89,7 +89,8 @@ module _ (R : Visit → Term → Visit → Type 0) (lasts : Lasts R) where
       back (Ok r) k = lasts.begun v r.1 r.0 (v.node + 1) (v.nodes + 1) k
       back (Err e) k = tt
 
-      go : (b : Bool) → Holds R v (and_then (cond b (Ok (here at v, w)) (Err (TooLarge (here at v)))) more)
+      go : (b : Bool)
+          → Holds R v (and_then (cond b (Ok (here at v, w)) (Err (TooLarge (here at v)))) more)
       go true = back (more (here at v) w) (h (here at v) w)
       go false = tt
 
@@ -106,11 +107,16 @@ module _ (R : Visit → Term → Visit → Type 0) (lasts : Lasts R) where
       → Holds R v (visit at path x v)
   visit_holds at path h (tree.Path p) v = h p v
   visit_holds at path h (tree.Merge l r) v =
-      begin_holds at _ (λ s. both_hold (Merge s) (visit at path l) (visit at path r) (lasts.merge s) (visit_holds at path h l) (visit_holds at path h r)) v
+      begin_holds at _
+      (λ s. both_hold (Merge s) (visit at path l) (visit at path r) (lasts.merge s)
+      (visit_holds at path h l) (visit_holds at path h r)) v
   visit_holds at path h (tree.More l r) v =
-      both_hold (Merge (here at v)) (visit at path l) (visit at path r) (lasts.merge (here at v)) (visit_holds at path h l) (visit_holds at path h r) v
+      both_hold (Merge (here at v)) (visit at path l) (visit at path r) (lasts.merge (here at v))
+      (visit_holds at path h l) (visit_holds at path h r) v
   visit_holds at path h (tree.Override l r) v =
-      begin_holds at _ (λ s. both_hold (Override s) (visit at path l) (visit at path r) (lasts.override s) (visit_holds at path h l) (visit_holds at path h r)) v
+      begin_holds at _
+      (λ s. both_hold (Override s) (visit at path l) (visit at path r) (lasts.override s)
+      (visit_holds at path h l) (visit_holds at path h r)) v
   visit_holds at path h (tree.Apply op x) v =
       begin_holds at _ (λ s. one_holds s op (visit at path x) (visit_holds at path h x)) v
 
@@ -160,17 +166,21 @@ module _ (R : Visit → Term → Visit → Type 0) (lasts : Lasts R) where
         → Holds R v (entered blueprint counts at p o v)
     from_entry blueprint counts at p v None e h = tt
     from_entry blueprint counts at p v (Some t) e h =
-        weaken p t e v (entered blueprint counts at p (Some t) v) (entered_holds blueprint counts at p v (Some t) h)
+        weaken p t e v (entered blueprint counts at p (Some t) v)
+        (entered_holds blueprint counts at p v (Some t) h)
 
     -- a blueprint, inside which `inner` visits paths
     opened : (inner : Name → Visitor Term) → ((q : Name) (w : Visit) → Holds R w (inner q w))
         → (above : List Name) (counts : Bool) (at p : Name) (v : Visit) (x : Tree)
         → Holds R (add_read p v)
-        (unless_cycle above at p (λ w. and_then (begin_path counts at (add_read p w)) (λ s. nested (visit p inner x))) v)
+        (unless_cycle above at p
+        (λ w. and_then (begin_path counts at (add_read p w)) (λ s. nested (visit p inner x))) v)
     opened inner h above counts at p v x =
         let more : Site → Visitor Term = λ s. nested (visit p inner x) in
-        unless_cycle_holds above at p (λ w. and_then (begin_path counts at (add_read p w)) more) v (add_read p v)
-        (begin_path_holds counts at more (λ s. nested_holds (visit p inner x) (visit_holds p inner h x)) (add_read p v))
+        unless_cycle_holds above at p (λ w. and_then (begin_path counts at (add_read p w)) more) v
+        (add_read p v)
+        (begin_path_holds counts at more
+        (λ s. nested_holds (visit p inner x) (visit_holds p inner h x)) (add_read p v))
 
     too_deep : (above : List Name) (at p : Name) (v : Visit)
         → Holds R (add_read p v) (unless_cycle above at p (λ w. Err (TooDeep (here at w) p)) v)
@@ -185,7 +195,8 @@ module _ (R : Visit → Term → Visit → Type 0) (lasts : Lasts R) where
         from_entry _ counts at p v (ns p) refl (λ x. too_deep above at p v)
     expand_holds (suc room) above counts at p v =
         from_entry _ counts at p v (ns p) refl
-        (opened (expand ns room (above ++ p ∷ []) true p) (expand_holds room (above ++ p ∷ []) true p) above counts at p v)
+        (opened (expand ns room (above ++ p ∷ []) true p)
+        (expand_holds room (above ++ p ∷ []) true p) above counts at p v)
 
     -- and from where the path is read on
     pub expand_holds_then : (room : ℕ) (above : List Name) (counts : Bool) (at p : Name) (v : Visit)
@@ -195,4 +206,5 @@ module _ (R : Visit → Term → Visit → Type 0) (lasts : Lasts R) where
         entered_holds _ counts at p v (ns p) (λ x. too_deep above at p v)
     expand_holds_then (suc room) above counts at p v =
         entered_holds _ counts at p v (ns p)
-        (opened (expand ns room (above ++ p ∷ []) true p) (expand_holds room (above ++ p ∷ []) true p) above counts at p v)
+        (opened (expand ns room (above ++ p ∷ []) true p)
+        (expand_holds room (above ++ p ∷ []) true p) above counts at p v)

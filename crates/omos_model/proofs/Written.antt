@@ -74,10 +74,12 @@ written_all (Merge s l r) n h =
     ∙ or_some (definition l n) (definition r n) _ _ (written_all l n) (written_all r n) h
 written_all (Override s l r) n h =
     list_any-append _ (written l) (written r)
-    ∙ or_swap (is_among (written l) n) (is_among (written r) n) (or_some (definition r n) (definition l n) _ _ (written_all r n) (written_all l n) h)
+    ∙ or_swap (is_among (written l) n) (is_among (written r) n)
+    (or_some (definition r n) (definition l n) _ _ (written_all r n) (written_all l n) h)
 written_all (Apply s op u) n h =
     list_any-append _ (given_by op) (written u)
-    ∙ elim (given_or_below op (definition u) n h) [ inl e ↦ or_left _ _ e | inr e ↦ or_right _ _ (written_all u n e) ]
+    ∙ elim (given_or_below op (definition u) n h)
+    [ inl e ↦ or_left _ _ e | inr e ↦ or_right _ _ (written_all u n e) ]
 
 -- `conflict` is the least name of all that both define
 pub conflict-IsLeast : ConflictLaw
@@ -93,4 +95,5 @@ pub least_same : (p q : Name → Bool) (o : Option Name) (xs : List Name)
     → ((n : Name) → is_among xs n ≡ true → p n ≡ q n) → fold (lesser p) o xs ≡ fold (lesser q) o xs
 least_same p q o [] h = refl
 least_same p q o (x ∷ xs) h =
-    rw (lesser_same p q o x (h x (or_left _ _ (same_name-refl x x refl)))) (least_same p q (lesser q o x) xs (λ n a. h n (or_right _ _ a)))
+    rw (lesser_same p q o x (h x (or_left _ _ (same_name-refl x x refl))))
+    (least_same p q (lesser q o x) xs (λ n a. h n (or_right _ _ a)))

@@ -18,10 +18,12 @@ use Rattle.omos_model.proofs.Names.{same_name-true}
 use Rattle.place_book.specs.Keys.{key_of, key_of_placement, next_of}
 
 -- a placement of the path has its key
-pub key_of_path : (path : Name) (p : Placement) → is_of path p ≡ true → key_of path ≡ key_of_placement p
+pub key_of_path : (path : Name) (p : Placement) → is_of path p ≡ true
+    → key_of path ≡ key_of_placement p
 key_of_path path p e = ap key_of (same_name-true path p.path e)
 
-pub key_of_server : (path : Name) (pages lo hi : ℕ) (p : Placement) → serves path pages lo hi p ≡ true
+pub key_of_server : (path : Name) (pages lo hi : ℕ) (p : Placement)
+    → serves path pages lo hi p ≡ true
     → key_of path ≡ key_of_placement p
 key_of_server path pages lo hi p e = go (same_name path p.path) refl e
   where
@@ -31,19 +33,24 @@ key_of_server path pages lo hi p e = go (same_name path p.path) refl e
     go true d k = key_of_path path p d
     go false d k = absurd (true≢false (sym k))
 
-pub key_joins : (keys : List ℕ) (ps : List Placement) (p : Placement) → keys ≡ map key_of_placement ps
+pub key_joins : (keys : List ℕ) (ps : List Placement) (p : Placement)
+    → keys ≡ map key_of_placement ps
     → keys ++ key_of p.path ∷ [] ≡ map key_of_placement (ps ++ p ∷ [])
 key_joins keys ps p e = ap (λ ks. ks ++ key_of p.path ∷ []) e ∙ sym (map_push key_of_placement ps p)
 
-pub found : {X : Type 0} (p : X → Bool) (xs : List X) (n : ℕ) (x : X) → n ≡ position_or_len p xs → n < length xs
+pub found : {X : Type 0} (p : X → Bool) (xs : List X) (n : ℕ) (x : X) → n ≡ position_or_len p xs
+    → n < length xs
     → x ≡ get_or xs n x → find p xs ≡ Some x
-found p xs n x e l g = find_at p xs ∙ ap (slice_get xs) (sym e) ∙ slice_get_read xs (length xs) n x refl l g
+found p xs n x e l g = find_at p xs ∙ ap (slice_get xs) (sym e)
+    ∙ slice_get_read xs (length xs) n x refl l g
 
-pub missing : {X : Type 0} (p : X → Bool) (xs : List X) (n : ℕ) → n ≡ position_or_len p xs → length xs ≤ n
+pub missing : {X : Type 0} (p : X → Bool) (xs : List X) (n : ℕ) → n ≡ position_or_len p xs
+    → length xs ≤ n
     → find p xs ≡ None
 missing p xs n e l = find_at p xs ∙ ap (slice_get xs) (sym e) ∙ slice_get_past xs n l
 
-pub same_count : (keys : List ℕ) (ps : List Placement) → keys ≡ map key_of_placement ps → length keys ≡ length ps
+pub same_count : (keys : List ℕ) (ps : List Placement) → keys ≡ map key_of_placement ps
+    → length keys ≡ length ps
 same_count keys ps e = ap length e ∙ length-map ps key_of_placement
 
 -- ---- the first element that passes
@@ -68,20 +75,25 @@ position_step p xs at x l g e =
 -- ---- the next position of a key
 
 -- it isn't at a place of another key
-pub next_later : (key : ℕ) (keys : List ℕ) (at k : ℕ) → at < length keys → k ≡ get_or keys at k → k ≢ key
+pub next_later : (key : ℕ) (keys : List ℕ) (at k : ℕ) → at < length keys → k ≡ get_or keys at k
+    → k ≢ key
     → next_of key at keys ≡ next_of key (at + 1) keys
-next_later key keys at k l g e = position_step (nat_eq key) keys at k l g (other (nat_eq key k) refl)
+next_later key keys at k l g e =
+    position_step (nat_eq key) keys at k l g (other (nat_eq key k) refl)
   where
     other : (b : Bool) → nat_eq key k ≡ b → nat_eq key k ≡ false
     other true d = let same : k ≡ key = grind (arith, nat_tests, d) in absurd (e same)
     other false d = d
 
-pub next_here : (key : ℕ) (keys : List ℕ) (at k : ℕ) → at < length keys → k ≡ get_or keys at k → k ≡ key
+pub next_here : (key : ℕ) (keys : List ℕ) (at k : ℕ) → at < length keys → k ≡ get_or keys at k
+    → k ≡ key
     → at ≡ next_of key at keys
 next_here key keys at k l g e =
     let cut = at_drop_more (position_or_len (nat_eq key)) keys at k l in
     let same : nat_eq key k ≡ true = grind (arith, nat_tests, e) in
-    let here = position_here (nat_eq key) (get_or keys at k) (drop (at + 1) keys) (ap (nat_eq key) (sym g) ∙ same) in
+    let here =
+    position_here (nat_eq key) (get_or keys at k) (drop (at + 1) keys)
+    (ap (nat_eq key) (sym g) ∙ same) in
     omega (arith, cut, here)
 
 pub next_past : (key : ℕ) (keys : List ℕ) (at : ℕ) → length keys ≤ at → at ≡ next_of key at keys
@@ -90,12 +102,14 @@ next_past key keys at l =
 
 -- ---- what no other key can pass is passed over
 
-skip_position : {X : Type 0} (p : X → Bool) (f : X → ℕ) (key : ℕ) → ((x : X) → p x ≡ true → key ≡ f x)
+skip_position : {X : Type 0} (p : X → Bool) (f : X → ℕ) (key : ℕ)
+    → ((x : X) → p x ≡ true → key ≡ f x)
     → (xs : List X) (n : ℕ) → n ≡ position_or_len (nat_eq key) (map f xs)
     → position_or_len p xs ≡ n + position_or_len p (drop n xs)
 skip_position p f key h [] n e = rw e refl
 skip_position p f key h (x ∷ xs) n e =
-    go (nat_eq key (f x)) (p x) refl refl e (skip_position p f key h xs (position_or_len (nat_eq key) (map f xs)) refl)
+    go (nat_eq key (f x)) (p x) refl refl e
+    (skip_position p f key h xs (position_or_len (nat_eq key) (map f xs)) refl)
   where
     go : (b d : Bool) → nat_eq key (f x) ≡ b → p x ≡ d
         → n ≡ cond (not b) (1 + position_or_len (nat_eq key) (map f xs)) 0
@@ -114,7 +128,8 @@ skip_filter : {X : Type 0} (p : X → Bool) (f : X → ℕ) (key : ℕ) → ((x 
     → filter p xs ≡ filter p (drop n xs)
 skip_filter p f key h [] n e = rw e refl
 skip_filter p f key h (x ∷ xs) n e =
-    go (nat_eq key (f x)) (p x) refl refl e (skip_filter p f key h xs (position_or_len (nat_eq key) (map f xs)) refl)
+    go (nat_eq key (f x)) (p x) refl refl e
+    (skip_filter p f key h xs (position_or_len (nat_eq key) (map f xs)) refl)
   where
     go : (b d : Bool) → nat_eq key (f x) ≡ b → p x ≡ d
         → n ≡ cond (not b) (1 + position_or_len (nat_eq key) (map f xs)) 0
@@ -136,7 +151,8 @@ jump f key from at keys xs k a =
     ∙ ap (position_or_len (nat_eq key)) (drop-map f from xs) in
     (n, e, a, drop-drop n from xs ∙ ap (λ m. drop m xs) (sym a))
 
-pub jump_position : {X : Type 0} (p : X → Bool) (f : X → ℕ) (key : ℕ) → ((x : X) → p x ≡ true → key ≡ f x)
+pub jump_position : {X : Type 0} (p : X → Bool) (f : X → ℕ) (key : ℕ)
+    → ((x : X) → p x ≡ true → key ≡ f x)
     → (from at : ℕ) (keys : List ℕ) (xs : List X) → keys ≡ map f xs → at ≡ next_of key from keys
     → at + position_or_len p (drop at xs) ≡ from + position_or_len p (drop from xs)
 jump_position p f key h from at keys xs k a =
@@ -146,7 +162,8 @@ jump_position p f key h from at keys xs k a =
     let b = j.2 in
     omega (arith, s, t, b)
 
-pub jump_filter : {X : Type 0} (p : X → Bool) (f : X → ℕ) (key : ℕ) → ((x : X) → p x ≡ true → key ≡ f x)
+pub jump_filter : {X : Type 0} (p : X → Bool) (f : X → ℕ) (key : ℕ)
+    → ((x : X) → p x ≡ true → key ≡ f x)
     → (from at : ℕ) (keys : List ℕ) (xs : List X) → keys ≡ map f xs → at ≡ next_of key from keys
     → filter p (drop at xs) ≡ filter p (drop from xs)
 jump_filter p f key h from at keys xs k a =
@@ -173,7 +190,8 @@ filter_step p xs at x before after l g b a =
     ap (λ ys. ys ++ rest) a ∙ append_assoc before (cond (p x) (x ∷ []) []) rest
     ∙ ap (λ ys. before ++ ys) (sym cut) ∙ b
 
-pub filter_past : {X : Type 0} (p : X → Bool) (xs : List X) (at : ℕ) (found : List X) → length xs ≤ at
+pub filter_past : {X : Type 0} (p : X → Bool) (xs : List X) (at : ℕ) (found : List X)
+    → length xs ≤ at
     → found ++ filter p (drop at xs) ≡ filter p xs → found ≡ filter p xs
 filter_past p xs at found l e =
     sym (append-nil found) ∙ ap (λ ys. found ++ filter p ys) (sym (drop_all at xs l)) ∙ e

@@ -77,7 +77,8 @@ range_of p h = range_is p.base (past_of p) h.range
 pub spans : (ps : List Placement) (ss : List Span) → IsKept ps ss → All IsSpan ss
 spans ps ss k =
     spans_all IsSpan ps ss k
-    (All-weaker IsPlacement (λ p. IsSpan (span_of p)) (λ p h. ((range_of p h).some, omega (arith, (range_of p h).high))) ps k.each)
+    (All-weaker IsPlacement (λ p. IsSpan (span_of p))
+    (λ p h. ((range_of p h).some, omega (arith, (range_of p h).high))) ps k.each)
 
 proper : (ps : List Placement) (ss : List Span) → IsKept ps ss → All IsProper ss
 proper ps ss k = All-weaker IsSpan IsProper (λ s h. h.0) ss (spans ps ss k)
@@ -105,12 +106,14 @@ pub held_place : (ps : List Placement) (path : Name) (pages lo hi base : ℕ)
     → Some base ≡ option_map (λ p. p.base) (held ps path pages lo hi)
     → Held base ≡ place_for ps path pages lo hi
 held_place ps path pages lo hi base e =
-    sym (from_words ps path pages lo hi (Held base) (held_by (held ps path pages lo hi) base (sym e)))
+    sym (from_words ps path pages lo hi (Held base)
+    (held_by (held ps path pages lo hi) base (sym e)))
 
 least : (ps : List Placement) (ss : List Span) (pages lo hi other : ℕ) → IsKept ps ss
     → IsFree ps pages lo hi other → fold (after (4096 * pages)) lo ss ≤ other
 least ps ss pages lo hi other k f =
-    fold_least (4096 * pages) lo other ss f.low (spans_all (IsClear (4096 * pages) other) ps ss k f.apart)
+    fold_least (4096 * pages) lo other ss f.low
+    (spans_all (IsClear (4096 * pages) other) ps ss k f.apart)
 
 free_at : (ps : List Placement) (ss : List Span) (pages lo hi : ℕ) → IsKept ps ss → IsRange lo hi
     → past (fold (after (4096 * pages)) lo ss) pages ≤ hi
@@ -125,7 +128,8 @@ free_at ps ss pages lo hi k r high =
           (fold_clear (4096 * pages) lo ss (proper ps ss k) k.order);
     }
 
-pub new_place : (ps : List Placement) (ss : List Span) (path : Name) (pages lo hi base : ℕ) → IsKept ps ss
+pub new_place : (ps : List Placement) (ss : List Span) (path : Name) (pages lo hi base : ℕ)
+    → IsKept ps ss
     → IsTrue (is_range lo hi) → None ≡ option_map (λ p. p.base) (held ps path pages lo hi)
     → base ≡ fold (after (4096 * pages)) lo ss → past base pages ≤ hi
     → New base ≡ place_for ps path pages lo hi
@@ -137,7 +141,8 @@ new_place ps ss path pages lo hi base k r u e high =
     ) in
     ap New e ∙ sym (from_words ps path pages lo hi (New (fold (after (4096 * pages)) lo ss)) words)
 
-pub no_place : (ps : List Placement) (ss : List Span) (path : Name) (pages lo hi base : ℕ) → IsKept ps ss
+pub no_place : (ps : List Placement) (ss : List Span) (path : Name) (pages lo hi base : ℕ)
+    → IsKept ps ss
     → None ≡ option_map (λ p. p.base) (held ps path pages lo hi)
     → base ≡ fold (after (4096 * pages)) lo ss → hi < past base pages
     → NoRoom ≡ place_for ps path pages lo hi
@@ -165,21 +170,26 @@ serving path pages lo hi p h e =
     let enough : pages ≤ p.pages = grind (arith, nat_tests, e) in
     (range.low_page, omega (arith, range.high))
 
-found_serves : (path : Name) (pages lo hi : ℕ) (ps : List Placement) (p : Placement) → All IsPlacement ps
+found_serves : (path : Name) (pages lo hi : ℕ) (ps : List Placement) (p : Placement)
+    → All IsPlacement ps
     → held ps path pages lo hi ≡ Some p → Stands (Held p.base) pages
 found_serves path pages lo hi [] p all e = absurd cc
 found_serves path pages lo hi (q ∷ ps) p all e =
-    go (serves path pages lo hi q) refl e (found_serves path pages lo hi ps p (All-tail IsPlacement q ps all))
+    go (serves path pages lo hi q) refl e
+    (found_serves path pages lo hi ps p (All-tail IsPlacement q ps all))
   where
-    go : (b : Bool) → serves path pages lo hi q ≡ b → cond b (Some q) (held ps path pages lo hi) ≡ Some p
-        → (held ps path pages lo hi ≡ Some p → Stands (Held p.base) pages) → Stands (Held p.base) pages
+    go : (b : Bool) → serves path pages lo hi q ≡ b → cond b (Some q) (held ps path pages lo hi)
+        ≡ Some p
+        → (held ps path pages lo hi ≡ Some p → Stands (Held p.base) pages)
+        → Stands (Held p.base) pages
     go true d k i =
         let same : q ≡ p = cc in
         subst (λ (r : Placement). Stands (Held r.base) pages) same
         (serving path pages lo hi q (All-head IsPlacement q ps all) d)
     go false d k i = i k
 
-pub held_stands : (ps : List Placement) (ss : List Span) (path : Name) (pages lo hi base : ℕ) → IsKept ps ss
+pub held_stands : (ps : List Placement) (ss : List Span) (path : Name) (pages lo hi base : ℕ)
+    → IsKept ps ss
     → Some base ≡ option_map (λ p. p.base) (held ps path pages lo hi) → Stands (Held base) pages
 held_stands ps ss path pages lo hi base k e =
     let h = held_by (held ps path pages lo hi) base (sym e) in
@@ -187,7 +197,8 @@ held_stands ps ss path pages lo hi base k e =
 
 -- ---- one placement more
 
-pub joined : (ps : List Placement) (ss : List Span) (p : Placement) (at : ℕ) → IsKept ps ss → CanJoin ps p
+pub joined : (ps : List Placement) (ss : List Span) (p : Placement) (at : ℕ) → IsKept ps ss
+    → CanJoin ps p
     → IsPlacement p → at ≡ position_or_len (begins_after p.base) ss
     → IsKept (ps ++ p ∷ []) (insert ss at (span_of p))
 joined ps ss p at k c g e = record {
@@ -203,7 +214,8 @@ joined ps ss p at k c g e = record {
 -- ---- a new place is lawful
 
 pub new_lawful : (book : List Placement) (path : Name) (pages lo hi base : ℕ) (p : Placement)
-    → place_for book path pages lo hi ≡ New base → IsTrue (is_range lo hi) → 1 ≤ pages → pages ≤ 2047
+    → place_for book path pages lo hi ≡ New base → IsTrue (is_range lo hi) → 1 ≤ pages
+    → pages ≤ 2047
     → p.base ≡ base → p.pages ≡ pages → IsPlacement p
 new_lawful book path pages lo hi base p e t some few b n =
     let h = to_words book path pages lo hi (New base) e in

@@ -36,14 +36,16 @@ first : (p : ℕ → Bool) (from count x : ℕ) → find p (map start (numbers_f
 first p from zero x e = absurd cc
 first p from (suc count) x e = go (p (start from)) refl e (first p (from + 1) count x)
   where
-    earlier : (m n : ℕ) → p (start from) ≡ false → IsFirst p (from + 1) n → (from ≡ m) ⊎ (from + 1 ≤ m)
+    earlier : (m n : ℕ) → p (start from) ≡ false → IsFirst p (from + 1) n → (from ≡ m)
+        ⊎ (from + 1 ≤ m)
         → m < n → p (start m) ≡ false
     earlier m n d f (inl same) h = ap (λ k. p (start k)) (sym same) ∙ d
     earlier m n d f (inr later) h = f.before m later h
 
     go : (b : Bool) → p (start from) ≡ b
         → cond b (Some (start from)) (find p (map start (numbers_from (from + 1) count))) ≡ Some x
-        → (find p (map start (numbers_from (from + 1) count)) ≡ Some x → (n : ℕ) × (x ≡ start n) × IsFirst p (from + 1) n)
+        → (find p (map start (numbers_from (from + 1) count)) ≡ Some x → (n : ℕ) × (x ≡ start n)
+        × IsFirst p (from + 1) n)
         → (n : ℕ) × (x ≡ start n) × IsFirst p from n
     go true d k i =
         let same : start from ≡ x = cc in
@@ -59,7 +61,8 @@ first p from (suc count) x e = go (p (start from)) refl e (first p (from + 1) co
         )
 
 none_passes : (p : ℕ → Bool) (from count m : ℕ)
-    → find p (map start (numbers_from from count)) ≡ None → from ≤ m → m < from + count → p (start m) ≡ false
+    → find p (map start (numbers_from from count)) ≡ None → from ≤ m → m < from + count
+    → p (start m) ≡ false
 none_passes p from zero m e l h = absurd (omega arith)
 none_passes p from (suc count) m e l h =
     go (p (start from)) refl e (here_or_later from m l) (none_passes p (from + 1) count m)
@@ -67,7 +70,8 @@ none_passes p from (suc count) m e l h =
     go : (b : Bool) → p (start from) ≡ b
         → cond b (Some (start from)) (find p (map start (numbers_from (from + 1) count))) ≡ None
         → (from ≡ m) ⊎ (from + 1 ≤ m)
-        → (find p (map start (numbers_from (from + 1) count)) ≡ None → from + 1 ≤ m → m < from + 1 + count → p (start m) ≡ false)
+        → (find p (map start (numbers_from (from + 1) count)) ≡ None → from + 1 ≤ m
+        → m < from + 1 + count → p (start m) ≡ false)
         → p (start m) ≡ false
     go true d k s i = cc
     go false d k (inl same) i = ap (λ j. p (start j)) (sym same) ∙ d
@@ -78,28 +82,33 @@ none_passes p from (suc count) m e l h =
 apart_true : (from to : ℕ) (p : Placement) → is_apart from to p ≡ true → IsApart from to p
 apart_true from to p e = go (nat_le to p.base) refl e
   where
-    go : (b : Bool) → nat_le to p.base ≡ b → (b || nat_le (past_of p) from) ≡ true → IsApart from to p
+    go : (b : Bool) → nat_le to p.base ≡ b → (b || nat_le (past_of p) from) ≡ true
+        → IsApart from to p
     go true d k = inl (grind (arith, nat_tests, d))
     go false d k = inr (grind (arith, nat_tests, k))
 
 apart_from : (from to : ℕ) (p : Placement) → IsApart from to p → is_apart from to p ≡ true
-apart_from from to p (inl l) = let t : nat_le to p.base ≡ true = grind (arith, nat_tests, l) in rw t refl
+apart_from from to p (inl l) = let t : nat_le to p.base ≡ true =
+    grind (arith, nat_tests, l) in rw t refl
 apart_from from to p (inr l) = go (nat_le to p.base) (grind (arith, nat_tests, l))
   where
     go : (b : Bool) → nat_le (past_of p) from ≡ true → (b || nat_le (past_of p) from) ≡ true
     go true k = refl
     go false k = k
 
-all_apart : (from to : ℕ) (ps : List Placement) → list_all (is_apart from to) ps ≡ true → All (IsApart from to) ps
+all_apart : (from to : ℕ) (ps : List Placement) → list_all (is_apart from to) ps ≡ true
+    → All (IsApart from to) ps
 all_apart from to [] e = All-nil (IsApart from to)
 all_apart from to (p ∷ ps) e = go (is_apart from to p) refl e (all_apart from to ps)
   where
     go : (b : Bool) → is_apart from to p ≡ b → (b && list_all (is_apart from to) ps) ≡ true
-        → (list_all (is_apart from to) ps ≡ true → All (IsApart from to) ps) → All (IsApart from to) (p ∷ ps)
+        → (list_all (is_apart from to) ps ≡ true → All (IsApart from to) ps)
+        → All (IsApart from to) (p ∷ ps)
     go true d k i = All-cons (IsApart from to) p ps (apart_true from to p d) (i k)
     go false d k i = absurd (true≢false (sym k))
 
-apart_all : (from to : ℕ) (ps : List Placement) → All (IsApart from to) ps → list_all (is_apart from to) ps ≡ true
+apart_all : (from to : ℕ) (ps : List Placement) → All (IsApart from to) ps
+    → list_all (is_apart from to) ps ≡ true
 apart_all from to [] a = refl
 apart_all from to (p ∷ ps) a =
     rw (apart_from from to p (All-head (IsApart from to) p ps a))
@@ -111,7 +120,8 @@ free_true book pages lo hi base page e =
     go (nat_le lo base) (nat_le (past base pages) hi) refl refl e
   where
     go : (a b : Bool) → nat_le lo base ≡ a → nat_le (past base pages) hi ≡ b
-        → (a && b && list_all (is_apart base (past base pages)) book) ≡ true → IsFree book pages lo hi base
+        → (a && b && list_all (is_apart base (past base pages)) book) ≡ true
+        → IsFree book pages lo hi base
     go true true l h k = record {
       page = page;
       low = grind (arith, nat_tests, l);
@@ -141,27 +151,32 @@ number_of book pages lo hi base f =
 
 least : (book : List Placement) (pages lo hi base : ℕ) → least_free book pages lo hi ≡ Some base
     → IsFree book pages lo hi base × ((other : ℕ) → IsFree book pages lo hi other → base ≤ other)
-least book pages lo hi base e = go (first (is_free book pages lo hi) (lo / 4096) (hi / 4096 + 1) base e)
+least book pages lo hi base e =
+    go (first (is_free book pages lo hi) (lo / 4096) (hi / 4096 + 1) base e)
   where
     below : (n other : ℕ) → base ≡ start n → IsFirst (is_free book pages lo hi) (lo / 4096) n
         → IsFree book pages lo hi other → base ≤ other
     below n other same f free = by (number_of book pages lo hi other free)
       where
-        by : (m : ℕ) × (other ≡ start m) × (lo / 4096 ≤ m) × (m < lo / 4096 + (hi / 4096 + 1)) → base ≤ other
+        by : (m : ℕ) × (other ≡ start m) × (lo / 4096 ≤ m) × (m < lo / 4096 + (hi / 4096 + 1))
+            → base ≤ other
         by h = again (nat_le n h.0) refl
           where
             again : (b : Bool) → nat_le n h.0 ≡ b → base ≤ other
-            again true d = let l : n ≤ h.0 = grind (arith, nat_tests, d) in let o = h.1 in omega arith
+            again true d = let l : n ≤ h.0 = grind (arith, nat_tests, d) in let o =
+                h.1 in omega arith
             again false d =
                 let l : h.0 < n = grind (arith, nat_tests, d) in
                 absurd (true≢false (sym (free_from book pages lo hi other free)
                 ∙ ap (is_free book pages lo hi) h.1 ∙ f.before h.0 h.2 l))
 
     go : (n : ℕ) × (base ≡ start n) × IsFirst (is_free book pages lo hi) (lo / 4096) n
-        → IsFree book pages lo hi base × ((other : ℕ) → IsFree book pages lo hi other → base ≤ other)
+        → IsFree book pages lo hi base
+        × ((other : ℕ) → IsFree book pages lo hi other → base ≤ other)
     go h =
         let same = h.1 in (
-          free_true book pages lo hi base (omega arith) (ap (is_free book pages lo hi) same ∙ h.2.passes),
+          free_true book pages lo hi base (omega arith) (ap (is_free book pages lo hi) same
+              ∙ h.2.passes),
           λ other free. below h.0 other same h.2 free,
         )
 
@@ -182,7 +197,8 @@ unfolding place_for
 in_words book path pages lo hi =
     go (held book path pages lo hi) refl (least_free book pages lo hi) refl
   where
-    go : (h : Option Placement) → held book path pages lo hi ≡ h → (o : Option ℕ) → least_free book pages lo hi ≡ o
+    go : (h : Option Placement) → held book path pages lo hi ≡ h → (o : Option ℕ)
+        → least_free book pages lo hi ≡ o
         → IsPlace book path pages lo hi (unless_held h o)
     go (Some p) d o e = (p, d, refl)
     go None d (Some base) e = let l = least book pages lo hi base e in (d, l.0, l.1)
@@ -209,7 +225,8 @@ one_place book path pages lo hi NoRoom NoRoom h k = refl
 pub from_words : (book : List Placement) (path : Name) (pages lo hi : ℕ) (at : Place)
     → IsPlace book path pages lo hi at → place_for book path pages lo hi ≡ at
 from_words book path pages lo hi at h =
-    one_place book path pages lo hi (place_for book path pages lo hi) at (in_words book path pages lo hi) h
+    one_place book path pages lo hi (place_for book path pages lo hi) at
+    (in_words book path pages lo hi) h
 
 pub to_words : (book : List Placement) (path : Name) (pages lo hi : ℕ) (at : Place)
     → place_for book path pages lo hi ≡ at → IsPlace book path pages lo hi at
@@ -217,4 +234,5 @@ to_words book path pages lo hi at e =
     subst (IsPlace book path pages lo hi) e (in_words book path pages lo hi)
 
 pub place_law : PlaceLaw
-place_law book path pages lo hi at = (to_words book path pages lo hi at, from_words book path pages lo hi at)
+place_law book path pages lo hi at =
+    (to_words book path pages lo hi at, from_words book path pages lo hi at)

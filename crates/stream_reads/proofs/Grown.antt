@@ -1,5 +1,6 @@
 -- Bytes that grew by a read into the room behind it.
-use Rattle.std.proofs.Common.{◌≡◌, ℕ, ◌+◌, ◌≤◌, List, [], ◌++◌, length, take, drop, Option, ap, sym, ◌∙◌}
+use Rattle.std.proofs.Common.{◌≡◌, ℕ, ◌+◌, ◌≤◌, List, [], ◌++◌, length, take, drop, Option, ap, sym}
+use Rattle.std.proofs.Common.{◌∙◌}
 use Rattle.std.proofs.Common.{append_assoc, arith}
 use Rattle.std.proofs.lemmas.List.{append-nil, length-take-le}
 use Rattle.std.proofs.Math.Seq.{drop-append_seam, take-add}
@@ -10,7 +11,8 @@ use Rattle.omos_outside.specs.declared.source.Got.TheVariants.{Bytes}
 use Rattle.stream_reads.specs.More.{HasMore}
 use Rattle.stream_reads.specs.Exact.{Grew}
 
--- the bytes are the file with room behind it, whose front was read; then what was not read was cut off
+-- the bytes are the file with room behind it, whose front was read; then what was not read was cut
+-- off
 pub more_by_piece : (before now : Option Stream) (file bytes grown : List ℕ) (room count : ℕ)
     → take (length file) bytes ≡ file → length bytes ≡ length file + room
     → grown ≡ take (length file + count) bytes → 1 ≤ count → count ≤ room
@@ -20,7 +22,8 @@ more_by_piece before now file bytes grown room count kept sized is some fits giv
     let piece : List ℕ = take count (drop (length file) bytes) in
     let whole : grown ≡ file ++ piece =
     is ∙ take-add (length file) count bytes ∙ ap (λ (front : List ℕ). front ++ piece) kept in
-    let added : drop (length file) grown ≡ piece = ap (drop (length file)) whole ∙ drop-append_seam file piece in
+    let added : drop (length file) grown ≡ piece = ap (drop (length file)) whole
+    ∙ drop-append_seam file piece in
     let size : length grown ≡ length file + count =
     ap length is ∙ length-take-le (length file + count) bytes (omega arith) in
     record {
@@ -41,6 +44,7 @@ grew_more a b c bytes grown more room got first second =
     let piece : List ℕ = drop (length grown) more in
     record {
       more = first.more ++ piece;
-      added = second.added ∙ ap (λ (t : List ℕ). t ++ piece) first.added ∙ append_assoc bytes first.more piece;
+      added = second.added ∙ ap (λ (t : List ℕ). t ++ piece) first.added
+          ∙ append_assoc bytes first.more piece;
       given = Gives-then a b c first.more piece first.given second.given;
     }

@@ -12,7 +12,8 @@ pub record Grew (before now : Option Stream) (bytes grown : List ℕ) : Type 0 w
 
 -- There are so many bytes; or the source has ended or failed, and there are fewer. Nothing is said
 -- where memory ran out.
-abbrev pub Filled : Result Unit Unread → Option Stream → Option Stream → List ℕ → List ℕ → ℕ → Type 0
+abbrev pub Filled : Result Unit Unread → Option Stream → Option Stream → List ℕ → List ℕ → ℕ
+    → Type 0
 Filled (Ok done) before now bytes grown size =
     Grew before now bytes grown × (length grown ≡ size)
 Filled (Err Ended) before now bytes grown size =

@@ -11,7 +11,8 @@ Advances End now bytes grown = (length grown ≡ length bytes) × IsAtEnd now
 Advances Failed now bytes grown = length grown ≡ length bytes
 
 -- a read added what the source gave, at most so many bytes
-pub record HasMore (before now : Option Stream) (bytes grown : List ℕ) (room : ℕ) (got : Got) : Type 0 where
+pub record HasMore (before now : Option Stream) (bytes grown : List ℕ) (room : ℕ)
+    (got : Got) : Type 0 where
   pub added : grown ≡ bytes ++ drop (length bytes) grown
   pub given : Gives before now (drop (length bytes) grown)
   pub few : length grown ≤ length bytes + room

@@ -1,6 +1,7 @@
 -- The tables of symbols and names, as far as they are written.
 use Rattle.std.proofs.Common.{◌≡◌, ℕ, ◌+◌, ◌<◌, ◌≤◌, List, [], ◌∷◌, ◌++◌, length, get_or}
-use Rattle.std.proofs.Common.{drop, refl, suc, append_assoc, add-one, length-append, drop-cons, arith, ap, sym, ◌∙◌}
+use Rattle.std.proofs.Common.{drop, refl, suc, append_assoc, add-one, length-append, drop-cons}
+use Rattle.std.proofs.Common.{arith, ap, sym, ◌∙◌}
 use Rattle.std.proofs.lemmas.List.{append-nil, drop_all}
 use Rattle.elf_words.specs.Sym.{sym_bytes}
 use Rattle.workload.specs.declared.plain.PlainSymbol.{PlainSymbol}

@@ -4,7 +4,8 @@ use Rattle.elf_object.proofs.DefinedBelow.{never_again}
 use Rattle.elf_object.proofs.Runs.{find_here, find_next}
 use Rattle.elf_object.proofs.SeenNames.{seen_still}
 use Rattle.elf_object.proofs.exports.first_again.Goals as goal
-use Rattle.elf_object.proofs.exports.first_again.Goals.{then-is_export+in_ok-is_new+else-not-branch, else-is_export}
+use Rattle.elf_object.proofs.exports.first_again.Goals.{then-is_export+in_ok-is_new+else-not-branch}
+use Rattle.elf_object.proofs.exports.first_again.Goals.{else-is_export}
 
 pub returns-then-not-branch : goal.returns-then-not-branch
 returns-then-not-branch c =

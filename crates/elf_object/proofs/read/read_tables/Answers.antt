@@ -1,6 +1,7 @@
 use Rattle.std.proofs.Common.{◌∙◌, sym}
 use Rattle.elf_object.specs.Stages.{section_fault, symbol_fault}
-use Rattle.elf_object.proofs.Whole.{header_is, whole, stop, pass, table_fault, table_right, table_wrong}
+use Rattle.elf_object.proofs.Whole.{header_is, whole, stop, pass, table_fault, table_right}
+use Rattle.elf_object.proofs.Whole.{table_wrong}
 use Rattle.elf_object.proofs.read.read_tables.Goals as goal
 
 pub returns-in-Some : goal.returns-in-Some
@@ -10,7 +11,8 @@ pub returns-in-Some-section_fault : goal.returns-in-Some-section_fault
 returns-in-Some-section_fault c =
     record {
       tables = whole c.args.file.now c.in_default.ensures ∙ stop
-          (section_fault c.args.file.now) _ c.in-Some-section_fault.fault c.in-Some-section_fault.ensures;
+          (section_fault c.args.file.now) _ c.in-Some-section_fault.fault
+          c.in-Some-section_fault.ensures;
     }
 
 pub returns-in-Err : goal.returns-in-Err

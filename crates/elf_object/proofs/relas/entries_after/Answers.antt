@@ -3,7 +3,8 @@ use Rattle.std.proofs.lemmas.Bool.{ne_eqb}
 use Rattle.omos_model.specs.ElfValues.{sht_rela}
 use Rattle.omos_model.specs.ElfFields.{e_shnum, sh_size, sh_type}
 use Rattle.elf_words.specs.declared.shdr.Shdr.{Shdr}
-use Rattle.elf_object.proofs.Sums.{other_kind, dropped, used, fine, is_rela, target, with_used, without_used}
+use Rattle.elf_object.proofs.Sums.{other_kind, dropped, used, fine, is_rela, target, with_used}
+use Rattle.elf_object.proofs.Sums.{without_used}
 use Rattle.elf_object.proofs.relas.entries_after.Goals as goal
 
 pub returns-then-header-ne-SHT_RELA : goal.returns-then-header-ne-SHT_RELA

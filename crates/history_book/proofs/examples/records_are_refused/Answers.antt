@@ -15,7 +15,8 @@ returns c = record {
   seat = λ legal.
       omega (
         arith,
-        ap (λ (o : Option Ask). unwrap_or (option_map (λ (x : Ask). x.seat) o) 0) legal.runs.1.0.2.asked,
+        ap (λ (o : Option Ask). unwrap_or (option_map (λ (x : Ask). x.seat) o) 0)
+            legal.runs.1.0.2.asked,
       );
   room = λ legal. omega (arith, legal.runs.0.fits);
 }

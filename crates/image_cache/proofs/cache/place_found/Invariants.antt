@@ -6,7 +6,9 @@ use Rattle.image_cache.proofs.cache.place_found.Given as goal
 abbrev pub invariant-items : goal.invariant-items
 invariant-items l =
     (l.at ≤ length l.items)
-    × (l.at + position_or_len (λ i. is_of l.path i && is_current l.snap.entries i) (drop l.at l.items) ≡ position_or_len (λ i. is_of l.path i && is_current l.snap.entries i) l.items)
+    × (l.at + position_or_len (λ i. is_of l.path i && is_current l.snap.entries i)
+    (drop l.at l.items) ≡ position_or_len (λ i. is_of l.path i && is_current l.snap.entries i)
+    l.items)
 
 abbrev pub decreases-items : goal.decreases-items
 decreases-items l = length l.items - l.at

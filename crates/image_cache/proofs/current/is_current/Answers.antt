@@ -14,11 +14,14 @@ returns-then-is_empty c =
     let since = drop c.args.item.now.current_at c.args.published.now in
     let len = ap length c.keys_since-since.ensures in
     let none : length since ≡ 0 = grind (arith, nat_tests, c.if-is_empty.ensures, len) in
-    sym (nothing_since since c.args.snap.now.entries c.args.item.now.image.footprint none c.requires)
+    sym (nothing_since since c.args.snap.now.entries c.args.item.now.image.footprint none
+    c.requires)
 
 pub returns : goal.returns
 returns c =
     let since = drop c.args.item.now.current_at c.args.published.now in
     c.all_stay.ensures
-    ∙ ap (λ (ks : List ℕ). list_all (λ (s : Stamped). not (is_listed ks s.path) || is_stamp (stamp_at c.args.snap.now.entries s.path) s.stamp) c.args.item.now.image.footprint) c.keys_since-since.ensures
+    ∙ ap (λ (ks : List ℕ). list_all (λ (s : Stamped). not (is_listed ks s.path)
+    || is_stamp (stamp_at c.args.snap.now.entries s.path) s.stamp)
+    c.args.item.now.image.footprint) c.keys_since-since.ensures
     ∙ stay_is_stand since c.args.snap.now.entries c.args.item.now.image.footprint c.requires

@@ -6,7 +6,8 @@ use Rattle.name_tree.proofs.order.around.Goals as goal
 
 pub without_first-requires : goal.without_first-requires
 without_first-requires c =
-    rw (c.split_at.ensures.back, c.count_below.ensures.place) (place-drop c.args.list.now c.args.path.now)
+    rw (c.split_at.ensures.back, c.count_below.ensures.place)
+    (place-drop c.args.list.now c.args.path.now)
 
 pub returns : goal.returns
 returns c = λ s e.

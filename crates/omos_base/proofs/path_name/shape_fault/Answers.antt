@@ -1,6 +1,8 @@
 use Rattle.std.proofs.Common.{rules, arith}
-use Rattle.omos_base.proofs.PathBeginnings.{stops_at_once, stops_at_slash, stops_at_byte, ends_early}
-use Rattle.omos_base.proofs.PathBeginnings.{is_path, stands_begun, stands_more_slash, stands_more_byte}
+use Rattle.omos_base.proofs.PathBeginnings.{stops_at_once, stops_at_slash, stops_at_byte}
+use Rattle.omos_base.proofs.PathBeginnings.{ends_early}
+use Rattle.omos_base.proofs.PathBeginnings.{is_path, stands_begun, stands_more_slash}
+use Rattle.omos_base.proofs.PathBeginnings.{stands_more_byte}
 use Rattle.omos_base.proofs.path_name.shape_fault.Goals as goal
 use Rattle.omos_base.proofs.path_name.shape_fault.Goals.{then-byte-eq47+else-size-eq0+else-parts-eq16+else-place-eq254}
 use Rattle.omos_base.proofs.path_name.shape_fault.Goals.{else-byte-eq47+else-size-eq64+else-not-is_part_byte}

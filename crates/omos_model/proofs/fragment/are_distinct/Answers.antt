@@ -17,9 +17,12 @@ returns-then-not-branch c =
     let next : suc i ≡ c.loop-at.at = omega arith in
     let here : drop i xs ≡ e ∷ rest = drop-cons xs i c.index-exports-at.result (omega arith) in
     let old = contains name_cmp c.loop-at.names key in
-    let before : old ≡ is_exported rest key = c.loop-at.invariant.0 key ∙ ap (λ j. is_exported (drop j xs) key) (sym next) in
-    let there : old ≡ true = not_not old false (sym c.in_ok-insert.ensures.added ∙ c.if-not-branch.true) in
-    sym (are_distinct-drop i xs (ap are_distinct here ∙ has_again e rest key old c.in_ok-copy.ensures before there))
+    let before : old ≡ is_exported rest key = c.loop-at.invariant.0 key
+    ∙ ap (λ j. is_exported (drop j xs) key) (sym next) in
+    let there : old ≡ true =
+    not_not old false (sym c.in_ok-insert.ensures.added ∙ c.if-not-branch.true) in
+    sym (are_distinct-drop i xs
+    (ap are_distinct here ∙ has_again e rest key old c.in_ok-copy.ensures before there))
 
 pub loop-at-preserved : goal.loop-at-preserved
 loop-at-preserved c =
@@ -31,12 +34,17 @@ loop-at-preserved c =
     let next : suc i ≡ c.loop-at.at = omega arith in
     let here : drop i xs ≡ e ∷ rest = drop-cons xs i c.index-exports-at.result (omega arith) in
     let old = contains name_cmp c.loop-at.names key in
-    let before : old ≡ is_exported rest key = c.loop-at.invariant.0 key ∙ ap (λ j. is_exported (drop j xs) key) (sym next) in
-    let new : old ≡ false = not_not old true (sym c.in_ok-insert.ensures.added ∙ c.if-not-branch.false) in
-    let apart : are_distinct rest ≡ true = ap (λ j. are_distinct (drop j xs)) next ∙ c.loop-at.invariant.1 in (
+    let before : old ≡ is_exported rest key = c.loop-at.invariant.0 key
+    ∙ ap (λ j. is_exported (drop j xs) key) (sym next) in
+    let new : old ≡ false =
+    not_not old true (sym c.in_ok-insert.ensures.added ∙ c.if-not-branch.false) in
+    let apart : are_distinct rest ≡ true = ap (λ j. are_distinct (drop j xs)) next
+    ∙ c.loop-at.invariant.1 in (
       λ n.
-          with_name e rest key n (contains name_cmp c.loop-at.names n) (contains name_cmp c.insert.new.self n) c.in_ok-copy.ensures
-          (c.loop-at.invariant.0 n ∙ ap (λ j. is_exported (drop j xs) n) (sym next)) (c.in_ok-insert.ensures.updates.0 n)
+          with_name e rest key n (contains name_cmp c.loop-at.names n)
+          (contains name_cmp c.insert.new.self n) c.in_ok-copy.ensures
+          (c.loop-at.invariant.0 n ∙ ap (λ j. is_exported (drop j xs) n) (sym next))
+          (c.in_ok-insert.ensures.updates.0 n)
           ∙ ap (λ ys. is_exported ys n) (sym here),
       ap are_distinct here ∙ is_new e rest key old c.in_ok-copy.ensures before new apart,
       omega arith,

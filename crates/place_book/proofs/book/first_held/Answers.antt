@@ -9,11 +9,14 @@ pub returns-then-at-placed : goal.returns-then-at-placed
 returns-then-at-placed c =
     rw (← c.index-placed-at.is)
     (sym (ap (option_map (λ (p : Placement). p.base))
-    (found (serves c.args.path.now c.args.pages c.args.lo c.args.hi) c.args.placed.now c.position_held-at.result
-    c.index-placed-at.result c.position_held-at.ensures.value c.if-at-placed.true c.index-placed-at.is)))
+    (found (serves c.args.path.now c.args.pages c.args.lo c.args.hi) c.args.placed.now
+    c.position_held-at.result
+    c.index-placed-at.result c.position_held-at.ensures.value c.if-at-placed.true
+    c.index-placed-at.is)))
 
 pub returns-else-at-placed : goal.returns-else-at-placed
 returns-else-at-placed c =
     sym (ap (option_map (λ (p : Placement). p.base))
-    (missing (serves c.args.path.now c.args.pages c.args.lo c.args.hi) c.args.placed.now c.position_held-at.result
+    (missing (serves c.args.path.now c.args.pages c.args.lo c.args.hi) c.args.placed.now
+    c.position_held-at.result
     c.position_held-at.ensures.value c.if-at-placed.false))

@@ -12,5 +12,7 @@ returns-in-Ok-End-clause-filled g c =
 
 pub returns-in-Ok-Failed-clause-filled : goal.returns-in-Ok-Failed-clause-filled
 returns-in-Ok-Failed-clause-filled g c =
-    let more = rw c.in-Ok-Failed.field-0-is at c.in-Ok-Failed.ensures.read in
-    (grew_more _ _ _ _ _ _ _ _ c.pieces.invariant.0 more, omega (arith, c.pieces-test.true, more.advances))
+    let more = rw c.in-Ok-Failed.field-0-is at c.in-Ok-Failed.ensures.read in (
+      grew_more _ _ _ _ _ _ _ _ c.pieces.invariant.0 more,
+      omega (arith, c.pieces-test.true, more.advances),
+    )

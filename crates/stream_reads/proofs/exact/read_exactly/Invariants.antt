@@ -4,7 +4,8 @@ use Rattle.stream_reads.proofs.exact.read_exactly.Given as goal
 
 abbrev pub invariant-pieces : goal.invariant-pieces
 invariant-pieces g l =
-    Grew (g.S.Source.told l.initial.source) (g.S.Source.told l.source) l.initial.bytes.items l.bytes.items
+    Grew (g.S.Source.told l.initial.source) (g.S.Source.told l.source) l.initial.bytes.items
+    l.bytes.items
     × (length l.bytes.items ≤ l.size)
     × (g.S.Source.faults l.initial.source ≤ g.S.Source.faults l.source)
 

@@ -20,18 +20,36 @@ invariant_of-self c =
     let ticket = rw (← c.self.view_is) at c.requires.ticket in
     let image = rw (← c.self.view_is) at c.requires.image in
     let base = c.base.ensures.base ∙ ap (λ (l : LinkedImage). l.base) c.get-2.ensures in
-    let new = rw (c.path.ensures, c.version-version.ensures) at (as_new_told _ _ _ (facts_apart _ _ _ _ c.self.invariant.0.told) ∙ sym c.if-has_as_new.ensures) in
-    let is = subst (λ (l : LinkedImage). answer l.footprint l.path l.base ≡ Ok l.bytes) c.get.ensures c.is_answer.ensures in
+    let new =
+    rw (c.path.ensures, c.version-version.ensures) at
+    (as_new_told _ _ _ (facts_apart _ _ _ _ c.self.invariant.0.told)
+    ∙ sym c.if-has_as_new.ensures) in
+    let is = subst (λ (l : LinkedImage). answer l.footprint l.path l.base ≡ Ok l.bytes)
+    c.get.ensures c.is_answer.ensures in
     let may = image_may_end _ _ c.args.image image.0 ticket image.1 is in
-    rw (c.push_answered.ensures.steps, c.push_answered.ensures.capacity, c.seat-seat.ensures, c.number-number.ensures, base)
-    (after_unstored _ _ _ _ _ _ _ c.self.invariant.0 ticket may (storing_none c.self.inside.cache.capacity c.self.inside.cache.items c.args.ticket.now.seat c.args.ticket.now.number c.args.ticket.now.path c.args.ticket.now.version new), c.self.invariant.1, c.self.invariant.2)
+    rw (
+      c.push_answered.ensures.steps,
+      c.push_answered.ensures.capacity,
+      c.seat-seat.ensures,
+      c.number-number.ensures,
+      base,
+    ) (
+      after_unstored _ _ _ _ _ _ _ c.self.invariant.0 ticket may
+          (storing_none c.self.inside.cache.capacity c.self.inside.cache.items c.args.ticket.now.seat
+          c.args.ticket.now.number c.args.ticket.now.path c.args.ticket.now.version new),
+      c.self.invariant.1,
+      c.self.invariant.2,
+    )
 
 pub returns-then-has_as_new : goal.returns-then-has_as_new
 returns-then-has_as_new c =
     let ticket = rw (← c.self.view_is) at c.requires.ticket in
     let image = rw (← c.self.view_is) at c.requires.image in
     let base = c.base.ensures.base ∙ ap (λ (l : LinkedImage). l.base) c.get-2.ensures in
-    let new = rw (c.path.ensures, c.version-version.ensures) at (as_new_told _ _ _ (facts_apart _ _ _ _ c.self.invariant.0.told) ∙ sym c.if-has_as_new.ensures) in
+    let new =
+    rw (c.path.ensures, c.version-version.ensures) at
+    (as_new_told _ _ _ (facts_apart _ _ _ _ c.self.invariant.0.told)
+    ∙ sym c.if-has_as_new.ensures) in
     rw (
       ← c.self.view_is,
       c.push_answered.ensures.steps,
@@ -39,13 +57,22 @@ returns-then-has_as_new c =
       c.seat-seat.ensures,
       c.number-number.ensures,
       base,
-      unstored_ending _ _ _ _ _ _ c.args.image.base c.self.invariant.0 ticket (storing_none c.self.inside.cache.capacity c.self.inside.cache.items c.args.ticket.now.seat c.args.ticket.now.number c.args.ticket.now.path c.args.ticket.now.version new),
+      unstored_ending _ _ _ _ _ _ c.args.image.base c.self.invariant.0 ticket
+          (storing_none c.self.inside.cache.capacity c.self.inside.cache.items
+          c.args.ticket.now.seat c.args.ticket.now.number c.args.ticket.now.path
+          c.args.ticket.now.version new),
     ) refl
 
 pub push_evicted-requires : goal.push_evicted-requires
 push_evicted-requires c =
     let ticket = rw (← c.self.view_is) at c.requires.ticket in
-    omega (arith, ticket_room _ _ _ _ _ _ c.self.invariant.0 ticket, ap length c.push_answered.ensures.steps, length_push c.self.inside.history.steps, c.push_answered.ensures.capacity)
+    omega (
+      arith,
+      ticket_room _ _ _ _ _ _ c.self.invariant.0 ticket,
+      ap length c.push_answered.ensures.steps,
+      length_push c.self.inside.history.steps,
+      c.push_answered.ensures.capacity,
+    )
 
 pub push_stored-requires : goal.push_stored-requires
 push_stored-requires c =
@@ -66,12 +93,22 @@ invariant_of-self-in-Some c =
     let ticket = rw (← c.self.view_is) at c.requires.ticket in
     let image = rw (← c.self.view_is) at c.requires.image in
     let base = c.base.ensures.base ∙ ap (λ (l : LinkedImage). l.base) c.get-2.ensures in
-    let new = rw (c.path.ensures, c.version-version.ensures) at (as_new_told _ _ _ (facts_apart _ _ _ _ c.self.invariant.0.told) ∙ sym c.if-has_as_new.ensures) in
-    let is = subst (λ (l : LinkedImage). answer l.footprint l.path l.base ≡ Ok l.bytes) c.get.ensures c.is_answer.ensures in
+    let new =
+    rw (c.path.ensures, c.version-version.ensures) at
+    (as_new_told _ _ _ (facts_apart _ _ _ _ c.self.invariant.0.told)
+    ∙ sym c.if-has_as_new.ensures) in
+    let is = subst (λ (l : LinkedImage). answer l.footprint l.path l.base ≡ Ok l.bytes)
+    c.get.ensures c.is_answer.ensures in
     let may = image_may_end _ _ c.args.image image.0 ticket image.1 is in
-    let gone = ap (leaving c.self.inside.cache) (sym image.1.path) ∙ sym c.in-Some.ensures.leaving in
-    let due = storing_is c.self.inside.cache.capacity c.self.inside.cache.items c.args.ticket.now.seat c.args.ticket.now.number c.args.ticket.now.path c.args.ticket.now.version c.in-Some.ensures.some new
-    ∙ ap (λ o. Some (step_for c.args.ticket.now.seat c.args.ticket.now.number c.args.ticket.now.path c.args.ticket.now.version o)) gone in
+    let gone = ap (leaving c.self.inside.cache) (sym image.1.path)
+    ∙ sym c.in-Some.ensures.leaving in
+    let due =
+    storing_is c.self.inside.cache.capacity c.self.inside.cache.items c.args.ticket.now.seat
+    c.args.ticket.now.number c.args.ticket.now.path c.args.ticket.now.version
+    c.in-Some.ensures.some new
+    ∙ ap (λ o. Some
+    (step_for c.args.ticket.now.seat c.args.ticket.now.number c.args.ticket.now.path
+    c.args.ticket.now.version o)) gone in
     rw (
       c.push_stored.ensures.steps,
       c.push_stored.ensures.capacity,
@@ -86,18 +123,31 @@ invariant_of-self-in-Some c =
       c.number-number.ensures,
       c.version-version.ensures,
       base,
+    ) (
+      after_evicting _ _ _ _ _ _ c.args.image image.0 c.in-Some.path c.self.invariant.0 ticket
+          image.1 may due,
+      c.self.invariant.1,
+      c.self.invariant.2,
     )
-    (after_evicting _ _ _ _ _ _ c.args.image image.0 c.in-Some.path c.self.invariant.0 ticket image.1 may due, c.self.invariant.1, c.self.invariant.2)
 
 pub returns-in-Some : goal.returns-in-Some
 returns-in-Some c =
     let ticket = rw (← c.self.view_is) at c.requires.ticket in
     let image = rw (← c.self.view_is) at c.requires.image in
     let base = c.base.ensures.base ∙ ap (λ (l : LinkedImage). l.base) c.get-2.ensures in
-    let new = rw (c.path.ensures, c.version-version.ensures) at (as_new_told _ _ _ (facts_apart _ _ _ _ c.self.invariant.0.told) ∙ sym c.if-has_as_new.ensures) in
-    let gone = ap (leaving c.self.inside.cache) (sym image.1.path) ∙ sym c.in-Some.ensures.leaving in
-    let due = storing_is c.self.inside.cache.capacity c.self.inside.cache.items c.args.ticket.now.seat c.args.ticket.now.number c.args.ticket.now.path c.args.ticket.now.version c.in-Some.ensures.some new
-    ∙ ap (λ o. Some (step_for c.args.ticket.now.seat c.args.ticket.now.number c.args.ticket.now.path c.args.ticket.now.version o)) gone in
+    let new =
+    rw (c.path.ensures, c.version-version.ensures) at
+    (as_new_told _ _ _ (facts_apart _ _ _ _ c.self.invariant.0.told)
+    ∙ sym c.if-has_as_new.ensures) in
+    let gone = ap (leaving c.self.inside.cache) (sym image.1.path)
+    ∙ sym c.in-Some.ensures.leaving in
+    let due =
+    storing_is c.self.inside.cache.capacity c.self.inside.cache.items c.args.ticket.now.seat
+    c.args.ticket.now.number c.args.ticket.now.path c.args.ticket.now.version
+    c.in-Some.ensures.some new
+    ∙ ap (λ o. Some
+    (step_for c.args.ticket.now.seat c.args.ticket.now.number c.args.ticket.now.path
+    c.args.ticket.now.version o)) gone in
     rw (
       ← c.self.view_is,
       c.push_stored.ensures.steps,
@@ -120,19 +170,35 @@ returns-in-Some c =
 pub push_stored-requires-2 : goal.push_stored-requires-2
 push_stored-requires-2 c =
     let ticket = rw (← c.self.view_is) at c.requires.ticket in
-    omega (arith, ticket_room _ _ _ _ _ _ c.self.invariant.0 ticket, ap length c.push_answered.ensures.steps, length_push c.self.inside.history.steps, c.push_answered.ensures.capacity)
+    omega (
+      arith,
+      ticket_room _ _ _ _ _ _ c.self.invariant.0 ticket,
+      ap length c.push_answered.ensures.steps,
+      length_push c.self.inside.history.steps,
+      c.push_answered.ensures.capacity,
+    )
 
 pub invariant_of-self-2 : goal.invariant_of-self-2
 invariant_of-self-2 c =
     let ticket = rw (← c.self.view_is) at c.requires.ticket in
     let image = rw (← c.self.view_is) at c.requires.image in
     let base = c.base.ensures.base ∙ ap (λ (l : LinkedImage). l.base) c.get-2.ensures in
-    let new = rw (c.path.ensures, c.version-version.ensures) at (as_new_told _ _ _ (facts_apart _ _ _ _ c.self.invariant.0.told) ∙ sym c.if-has_as_new.ensures) in
-    let is = subst (λ (l : LinkedImage). answer l.footprint l.path l.base ≡ Ok l.bytes) c.get.ensures c.is_answer.ensures in
+    let new =
+    rw (c.path.ensures, c.version-version.ensures) at
+    (as_new_told _ _ _ (facts_apart _ _ _ _ c.self.invariant.0.told)
+    ∙ sym c.if-has_as_new.ensures) in
+    let is = subst (λ (l : LinkedImage). answer l.footprint l.path l.base ≡ Ok l.bytes)
+    c.get.ensures c.is_answer.ensures in
     let may = image_may_end _ _ c.args.image image.0 ticket image.1 is in
-    let gone = ap (leaving c.self.inside.cache) (sym image.1.path) ∙ sym c.in_default.ensures.leaving in
-    let due = storing_is c.self.inside.cache.capacity c.self.inside.cache.items c.args.ticket.now.seat c.args.ticket.now.number c.args.ticket.now.path c.args.ticket.now.version c.in_default.ensures.some new
-    ∙ ap (λ o. Some (step_for c.args.ticket.now.seat c.args.ticket.now.number c.args.ticket.now.path c.args.ticket.now.version o)) gone in
+    let gone = ap (leaving c.self.inside.cache) (sym image.1.path)
+    ∙ sym c.in_default.ensures.leaving in
+    let due =
+    storing_is c.self.inside.cache.capacity c.self.inside.cache.items c.args.ticket.now.seat
+    c.args.ticket.now.number c.args.ticket.now.path c.args.ticket.now.version
+    c.in_default.ensures.some new
+    ∙ ap (λ o. Some
+    (step_for c.args.ticket.now.seat c.args.ticket.now.number c.args.ticket.now.path
+    c.args.ticket.now.version o)) gone in
     rw (
       c.push_stored-2.ensures.steps,
       c.push_stored-2.ensures.capacity,
@@ -145,18 +211,30 @@ invariant_of-self-2 c =
       c.number-number.ensures,
       c.version-version.ensures,
       base,
+    ) (
+      after_stored _ _ _ _ _ _ c.args.image image.0 c.self.invariant.0 ticket image.1 may due,
+      c.self.invariant.1,
+      c.self.invariant.2,
     )
-    (after_stored _ _ _ _ _ _ c.args.image image.0 c.self.invariant.0 ticket image.1 may due, c.self.invariant.1, c.self.invariant.2)
 
 pub returns : goal.returns
 returns c =
     let ticket = rw (← c.self.view_is) at c.requires.ticket in
     let image = rw (← c.self.view_is) at c.requires.image in
     let base = c.base.ensures.base ∙ ap (λ (l : LinkedImage). l.base) c.get-2.ensures in
-    let new = rw (c.path.ensures, c.version-version.ensures) at (as_new_told _ _ _ (facts_apart _ _ _ _ c.self.invariant.0.told) ∙ sym c.if-has_as_new.ensures) in
-    let gone = ap (leaving c.self.inside.cache) (sym image.1.path) ∙ sym c.in_default.ensures.leaving in
-    let due = storing_is c.self.inside.cache.capacity c.self.inside.cache.items c.args.ticket.now.seat c.args.ticket.now.number c.args.ticket.now.path c.args.ticket.now.version c.in_default.ensures.some new
-    ∙ ap (λ o. Some (step_for c.args.ticket.now.seat c.args.ticket.now.number c.args.ticket.now.path c.args.ticket.now.version o)) gone in
+    let new =
+    rw (c.path.ensures, c.version-version.ensures) at
+    (as_new_told _ _ _ (facts_apart _ _ _ _ c.self.invariant.0.told)
+    ∙ sym c.if-has_as_new.ensures) in
+    let gone = ap (leaving c.self.inside.cache) (sym image.1.path)
+    ∙ sym c.in_default.ensures.leaving in
+    let due =
+    storing_is c.self.inside.cache.capacity c.self.inside.cache.items c.args.ticket.now.seat
+    c.args.ticket.now.number c.args.ticket.now.path c.args.ticket.now.version
+    c.in_default.ensures.some new
+    ∙ ap (λ o. Some
+    (step_for c.args.ticket.now.seat c.args.ticket.now.number c.args.ticket.now.path
+    c.args.ticket.now.version o)) gone in
     rw (
       ← c.self.view_is,
       c.push_stored-2.ensures.steps,

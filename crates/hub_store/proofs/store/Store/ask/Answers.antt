@@ -17,7 +17,8 @@ use Rattle.hub_store.proofs.store.Store.ask.Goals as goal
 pub find-requires : goal.find-requires
 find-requires c =
     rw c.published.ensures
-    (all_known c.self.inside.history.steps _ _ c.self.invariant.0.told.space_is c.self.invariant.0.told.kept)
+    (all_known c.self.inside.history.steps _ _ c.self.invariant.0.told.space_is
+    c.self.invariant.0.told.kept)
 
 pub invariant_of-self : goal.invariant_of-self
 invariant_of-self c =
@@ -56,13 +57,22 @@ returns-in_default c =
 pub invariant_of-self-in_default-twin : goal.invariant_of-self-in_default-twin
 invariant_of-self-in_default-twin c =
     let room = c.if-not-room.ensures.0 (search rules) in
-    rw (c.push_missed-in_default-twin.ensures.steps, c.push_missed-in_default-twin.ensures.capacity, c.tally-tally.ensures.value)
+    rw (
+      c.push_missed-in_default-twin.ensures.steps,
+      c.push_missed-in_default-twin.ensures.capacity,
+      c.tally-tally.ensures.value,
+    )
     (after_missed _ _ _ _ _ _ c.self.invariant.0 room, c.self.invariant.1, c.self.invariant.2)
 
 pub returns-in_default-twin : goal.returns-in_default-twin
 returns-in_default-twin c =
     let room = c.if-not-room.ensures.0 (search rules) in
-    rw (← c.self.view_is, c.push_missed-in_default-twin.ensures.steps, c.push_missed-in_default-twin.ensures.capacity, c.tally-tally.ensures.value)
+    rw (
+      ← c.self.view_is,
+      c.push_missed-in_default-twin.ensures.steps,
+      c.push_missed-in_default-twin.ensures.capacity,
+      c.tally-tally.ensures.value,
+    )
     (room, refl)
 
 pub invariant_of-self-2 : goal.invariant_of-self-2
@@ -70,11 +80,18 @@ invariant_of-self-2 c =
     let room = c.if-not-room.ensures.0 (search rules) in
     let items = c.self.inside.cache.items in
     let i = c.at.result.now in
-    let found = found_at c.self.inside.snap.entries items c.args.path.now c.in-Some.position i c.in-Some.ensures.0 c.at.ensures (c.in-Some.ensures.1 i c.at.ensures) in
+    let found =
+    found_at c.self.inside.snap.entries items c.args.path.now c.in-Some.position i
+    c.in-Some.ensures.0 c.at.ensures (c.in-Some.ensures.1 i c.at.ensures) in
     let touched = c.touch.ensures.items in
-    let same = same_item items c.in-Some.position i touched.0 c.in-Some.ensures.0 c.at.ensures touched.1 in
-    let left = touched.2 ∙ ap (λ (j : Item). as_found c.tally-tally.result.version j ∷ remove items c.in-Some.position) same in
-    let base = c.base.ensures.base ∙ ap (λ (l : LinkedImage). l.base) (c.get-2.ensures ∙ c.in-Ok-twin.ensures) in
+    let same =
+    same_item items c.in-Some.position i touched.0 c.in-Some.ensures.0 c.at.ensures touched.1 in
+    let left =
+    touched.2
+    ∙ ap (λ (j : Item). as_found c.tally-tally.result.version j
+    ∷ remove items c.in-Some.position) same in
+    let base = c.base.ensures.base
+    ∙ ap (λ (l : LinkedImage). l.base) (c.get-2.ensures ∙ c.in-Ok-twin.ensures) in
     rw (
       c.push_answered.ensures.steps,
       c.push_answered.ensures.capacity,
@@ -84,20 +101,30 @@ invariant_of-self-2 c =
       left,
       base,
       c.tally-tally.ensures.value,
+    ) (
+      after_hit _ _ _ _ _ c.args.seat _ _ _ c.self.invariant.0 room found,
+      c.self.invariant.1,
+      c.self.invariant.2,
     )
-    (after_hit _ _ _ _ _ c.args.seat _ _ _ c.self.invariant.0 room found, c.self.invariant.1, c.self.invariant.2)
 
 pub returns : goal.returns
 returns c =
     let room = c.if-not-room.ensures.0 (search rules) in
     let items = c.self.inside.cache.items in
     let i = c.at.result.now in
-    let found = found_at c.self.inside.snap.entries items c.args.path.now c.in-Some.position i c.in-Some.ensures.0 c.at.ensures (c.in-Some.ensures.1 i c.at.ensures) in
+    let found =
+    found_at c.self.inside.snap.entries items c.args.path.now c.in-Some.position i
+    c.in-Some.ensures.0 c.at.ensures (c.in-Some.ensures.1 i c.at.ensures) in
     let image = c.get.ensures ∙ c.in-Ok-twin.ensures in
-    let bytes = subst (λ (l : LinkedImage). answer l.footprint l.path l.base ≡ Ok l.bytes) image c.is_answer.ensures in
-    let answers = found_answers _ _ _ items c.args.path.now c.in-Some.position i _ c.self.invariant.0.told found bytes in
+    let bytes =
+    subst (λ (l : LinkedImage). answer l.footprint l.path l.base ≡ Ok l.bytes) image
+    c.is_answer.ensures in
+    let answers =
+    found_answers _ _ _ items c.args.path.now c.in-Some.position i _ c.self.invariant.0.told
+    found bytes in
     let base = c.base.ensures.base ∙ ap (λ (l : LinkedImage). l.base) c.get-2.ensures in
-    let path = ap (λ (l : LinkedImage). l.path) c.in-Ok-twin.ensures ∙ sym (same_name-true c.args.path.now (path_of i) found.of_path) in
+    let path = ap (λ (l : LinkedImage). l.path) c.in-Ok-twin.ensures
+    ∙ sym (same_name-true c.args.path.now (path_of i) found.of_path) in
     rw (
       ← c.self.view_is,
       c.push_answered.ensures.steps,
@@ -108,5 +135,11 @@ returns c =
       base,
       c.tally-tally.ensures.value,
       append_assoc,
+    ) (
+      room,
+      refl,
+      path,
+      subst (λ (l : LinkedImage). answer (namespace_after c.self.inside.history.steps)
+          c.args.path.now l.base ≡ Ok l.bytes) (sym c.in-Ok-twin.ensures) answers,
+      refl,
     )
-    (room, refl, path, subst (λ (l : LinkedImage). answer (namespace_after c.self.inside.history.steps) c.args.path.now l.base ≡ Ok l.bytes) (sym c.in-Ok-twin.ensures) answers, refl)

@@ -18,8 +18,11 @@ invariant_of-self c =
       not_held,
       c.flush-held.ensures.items,
       unheld c.args.path.now c.self.inside.cache.items (sym un),
+    ) (
+      after_unheld _ _ _ _ _ _ _ c.self.invariant.0 room told,
+      c.self.invariant.1,
+      c.self.invariant.2,
     )
-    (after_unheld _ _ _ _ _ _ _ c.self.invariant.0 room told, c.self.invariant.1, c.self.invariant.2)
 
 pub returns-then-not-held : goal.returns-then-not-held
 returns-then-not-held c =
@@ -27,7 +30,14 @@ returns-then-not-held c =
     let un = c.if-not-held.ensures.held in
     let not_held = c.flush-held.ensures.held ∙ sym un in
     let told = un ∙ held_told _ _ _ _ _ c.self.invariant.0.told in
-    rw (← c.self.view_is, c.push_flushed.ensures.steps, c.push_flushed.ensures.capacity, c.flush-held.ensures.capacity, c.tally-number.ensures.value, not_held)
+    rw (
+      ← c.self.view_is,
+      c.push_flushed.ensures.steps,
+      c.push_flushed.ensures.capacity,
+      c.flush-held.ensures.capacity,
+      c.tally-number.ensures.value,
+      not_held,
+    )
     (room, told, refl)
 
 pub invariant_of-self-2 : goal.invariant_of-self-2

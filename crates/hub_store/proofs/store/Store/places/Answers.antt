@@ -20,6 +20,12 @@ invariant_of-self-2 c =
 pub returns : goal.returns
 returns c =
     let room = c.if-not-room.ensures.0 (search rules) in
-    let found = c.in-Ok.ensures ∙ ap (filter (is_of c.args.path.now)) c.self.invariant.0.told.book_is in
-    rw (← c.self.view_is, c.push_places.ensures.steps, c.push_places.ensures.capacity, c.tally-number.ensures.value)
+    let found = c.in-Ok.ensures
+    ∙ ap (filter (is_of c.args.path.now)) c.self.invariant.0.told.book_is in
+    rw (
+      ← c.self.view_is,
+      c.push_places.ensures.steps,
+      c.push_places.ensures.capacity,
+      c.tally-number.ensures.value,
+    )
     (room, found, refl)

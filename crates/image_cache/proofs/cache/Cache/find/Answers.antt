@@ -8,11 +8,16 @@ use Rattle.image_cache.proofs.cache.Cache.find.Goals as goal
 pub returns-then-at-len : goal.returns-then-at-len
 returns-then-at-len c =
     let within = rw c.len.ensures.value at c.if-at-len.true in
-    rw (← c.self.view_is)
-    (within, λ i e. passes (λ (j : Item). is_of c.args.path.now j && is_current c.args.snap.now.entries j) c.self.inside.items c.place_found-at.result i c.place_found-at.ensures.value within e)
+    rw (← c.self.view_is) (
+      within,
+      λ i e. passes (λ (j : Item). is_of c.args.path.now j
+          && is_current c.args.snap.now.entries j) c.self.inside.items c.place_found-at.result i
+          c.place_found-at.ensures.value within e,
+    )
 
 pub returns-else-at-len : goal.returns-else-at-len
 returns-else-at-len c =
     let past = rw c.len.ensures.value at c.if-at-len.false in
     rw (← c.self.view_is)
-    ((any_found (λ (j : Item). is_of c.args.path.now j && is_current c.args.snap.now.entries j) c.self.inside.items c.place_found-at.result c.place_found-at.ensures.value).1 past)
+    ((any_found (λ (j : Item). is_of c.args.path.now j && is_current c.args.snap.now.entries j)
+    c.self.inside.items c.place_found-at.result c.place_found-at.ensures.value).1 past)

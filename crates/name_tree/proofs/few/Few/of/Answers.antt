@@ -20,4 +20,5 @@ returns g c =
     c.in_ok-row.ensures c.in_ok-row-2.ensures c.in_ok-row-3.ensures c.in_ok-row-4.ensures
     c.in_ok-row-5.ensures c.in_ok-row-6.ensures c.in_ok-row-7.ensures c.in_ok-row-8.ensures in
     IfOk-weaker c.of.result _ _ (λ few h.
-    h ∙ few-of all c.args.from c.args.count (r0 ∷ r1 ∷ r2 ∷ r3 ∷ r4 ∷ r5 ∷ r6 ∷ r7 ∷ []) c.requires.some c.requires.few c.requires.within rows) c.of.ensures
+    h ∙ few-of all c.args.from c.args.count (r0 ∷ r1 ∷ r2 ∷ r3 ∷ r4 ∷ r5 ∷ r6 ∷ r7 ∷ [])
+    c.requires.some c.requires.few c.requires.within rows) c.of.ensures
