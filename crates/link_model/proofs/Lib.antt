@@ -1,9 +1,7 @@
 pub mod Modules
-pub mod Founds
-pub mod Alone
 pub mod Frame
 pub mod Footprints
 pub mod Stamps
-pub mod Taken
 pub mod Ranges
 pub mod Short
+pub mod Descents

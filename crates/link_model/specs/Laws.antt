@@ -1,16 +1,23 @@
 -- Laws of evaluated modules.
-use Rattle.std.specs.Prelude.{◌≡◌, ◌≤◌, ℕ, List, Option, Some, Ok, length}
-use Rattle.std.specs.List.{AllByRecursion, sum_by}
+use Rattle.std.specs.Prelude.{◌≡◌, ◌↔◌, ◌≤◌, ◌==◌, ℕ, List, [], Option, Some, Ok, IsTrue, length}
+use Rattle.std.specs.Prelude.{map, slice_get, unwrap_or}
+use Rattle.std.specs.List.{AllByRecursion, IsDistinct, sum_by}
 use Rattle.std.specs.Option.{option_map}
 use Rattle.omos_model.specs.Names.{Name}
 use Rattle.omos_model.specs.Namespace.{Space, look_up, namespace_at}
+use Rattle.omos_model.specs.Term.{Term, leaf_numbers}
+use Rattle.omos_model.specs.State.{is_open, landing, state}
 use Rattle.omos_model.specs.Expansion.{expansion, max_leaves, max_sum}
 use Rattle.omos_model.specs.Footprint.{footprint}
 use Rattle.omos_model.specs.declared.entry.Entry.{Entry}
 use Rattle.omos_model.specs.declared.entry.Stamped.{Stamped}
+use Rattle.omos_model.specs.declared.mark.Landing.{Landing}
+use Rattle.omos_model.specs.declared.mark.Mark.TheVariants.{Open}
+use Rattle.omos_model.specs.Visit.{Visit}
 use Rattle.link_model.specs.Answer.{answer}
-use Rattle.link_model.specs.Module.{Module, IsModule, plan_of_module}
+use Rattle.link_model.specs.Module.{Module, IsModule, landing_at, plan_of_module}
 use Rattle.link_model.specs.Plan.{plan_of}
+use Rattle.link_model.specs.Program.{Parts, Reference, parts_of_term, references}
 
 -- a module has at most 256 leaves, and 524,288 references in all
 pub record IsBounded (m : Module) : Type 0 where
@@ -29,6 +36,49 @@ SizeLaw =
 -- the plan of a module is that of its path on the namespace that its footprint lists
 abbrev pub OwnPlanLaw : Type 0
 OwnPlanLaw = (m : Module) → IsModule m → plan_of m.footprint m.path ≡ plan_of_module m
+
+-- ---- references, found by descent at each use
+
+-- in a module each fixup lands on what descent through the path's term finds for it
+abbrev pub ModuleLandingsLaw : Type 0
+ModuleLandingsLaw =
+    (m : Module) → IsModule m → (t : Term) (v : Visit) → expansion m.footprint m.path ≡ Ok (t, v)
+    → (leaf k : ℕ) → landing_at m leaf k ≡ landing t leaf k
+
+-- what fixup k of a part lands on, if it is there
+abbrev pub landing_in : Parts → ℕ → ℕ → Option Landing
+landing_in parts leaf k = slice_get (unwrap_or (slice_get (map (λ p. p.landings) parts) leaf) []) k
+
+-- and so it does in the program of which a path's plan is made
+abbrev pub ProgramLandingsLaw : Type 0
+ProgramLandingsLaw =
+    (ns : Space) (path : Name) (t : Term) (v : Visit) → expansion ns path ≡ Ok (t, v)
+    → (leaf k : ℕ) → landing_in (parts_of_term t) leaf k ≡ landing t leaf k
+
+-- each reference of that program lands on what descent finds for its leaf and number
+abbrev pub ReferencesLaw : Type 0
+ReferencesLaw =
+    (ns : Space) (path : Name) (t : Term) (v : Visit) → expansion ns path ≡ Ok (t, v)
+    → AllByRecursion (λ r. landing t r.leaf r.number ≡ Some r.landing) (references (parts_of_term t))
+
+-- no two leaves of an expansion have one number
+abbrev pub LeavesApartLaw : Type 0
+LeavesApartLaw =
+    (ns : Space) (path : Name) (t : Term) (v : Visit) → expansion ns path ≡ Ok (t, v)
+    → IsDistinct ◌==◌ (leaf_numbers t)
+
+-- descent finds some fixup of a leaf that is open under x
+abbrev pub IsOpenAt : Term → Name → Type 0
+IsOpenAt t x = (leaf : ℕ) × (k : ℕ) × (state t leaf k ≡ Some (Open x))
+
+-- where no two leaves have one number, a name is open in the list of all references where descent
+-- finds it open
+abbrev pub OpenLaw : Type 0
+OpenLaw =
+    (t : Term) → IsDistinct ◌==◌ (leaf_numbers t) → (x : Name)
+    → IsTrue (is_open t x) ↔ IsOpenAt t x
+
+-- ---- what a path depends on
 
 -- each of these stands under its path
 abbrev pub HasEntries : Space → List Stamped → Type 0

@@ -18,8 +18,6 @@ use Rattle.omos_model.specs.declared.mark.Landing.{Landing}
 use Rattle.omos_model.specs.declared.mark.Target.{Target}
 use Rattle.omos_model.specs.declared.refusal.Refusal.{Refusal}
 use Rattle.omos_model.specs.Visit.{Visit}
-use Rattle.module_table.specs.Stands.{StandsFor}
-use Rattle.module_table.specs.TableParts.{TableParts}
 use Rattle.link_model.specs.declared.evaluated.Found.{Found}
 use Rattle.link_model.specs.Program.{Part, Parts, Terms, landings_of, object_of, terms_of}
 use Rattle.link_model.specs.Plan.{Plan, plan_of, plan_of_parts}
@@ -81,10 +79,6 @@ pub record IsTermOf (path : Name) (ns : Space) (given : Terms) (t : Term) (v : V
 
 abbrev pub terms_with : Start → ℕ → ℕ → Terms
 terms_with start lo hi = record { start = start; lo = lo; hi = hi }
-
--- the table stands for the path's term
-abbrev pub IsTableOf : TableParts → Name → Space → Terms → Type 0
-IsTableOf table path ns terms = (t : Term) × (v : Visit) × StandsFor table t × IsTermOf path ns terms t v
 
 -- the namespace that holds an entry alone
 abbrev pub alone : Name → Entry → Space

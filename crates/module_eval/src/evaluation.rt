@@ -21,6 +21,7 @@ use crate::terms::{self, Terms};
 use crate::walk::visit_path;
 use indexmap::IndexMap;
 use link_model::Evaluated;
+use module_land::land;
 use module_table::{Steps, Table};
 use name_tree::Snap;
 use omos_base::{Fault, NoMemory, PathName};
@@ -71,7 +72,7 @@ fn finish(
     let terms = terms::of_entry(alloc, own.entry.get())?;
     let entries = entries_of(alloc, read)?;
     let Terms { start, lo, hi } = terms;
-    let module = Evaluated::of_table(alloc, path.copy(), table, entries, start, lo, hi)?;
+    let module = land(alloc, path.copy(), table, entries, start, lo, hi)?;
     // What the module keeps.
     let _path = module.path();
     Ok(module)

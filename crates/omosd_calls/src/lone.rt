@@ -49,7 +49,7 @@ fn evaluate(alloc: Global, seed: Seed, fragment: Fragment) -> Result<Evaluated, 
         × (m.footprint ≡ alone lone_path (Entry.Object fragment))) }
 {
     let entry = Shared::of(alloc, Entry::Object(fragment))?;
-    Evaluated::lone(alloc, seed, lone_path(), entry)
+    module_land::lone(alloc, seed, lone_path(), entry)
 }
 
 /// The image of a file's object, or why it has none. The table of its names hashes by the seed.

@@ -2,11 +2,11 @@ use Rattle.std.proofs.Common.{List, [], ◌∷◌, ◌++◌, sym, ap, ◌∙◌}
 use Rattle.omos_model.specs.Names.{Name}
 use Rattle.omos_model.specs.declared.entry.Stamped.{Stamped}
 use Rattle.omos_model.specs.declared.entry.Start.TheVariants.{Named}
-use Rattle.link_model.proofs.Alone.{is_table_of}
-use Rattle.link_model.proofs.evaluated.Evaluated.lone.Goals as goal
+use Rattle.module_land.proofs.Alone.{is_table_of}
+use Rattle.module_land.proofs.made.lone.Goals as goal
 
-pub of_table-requires : goal.of_table-requires
-of_table-requires c =
+pub land-requires : goal.land-requires
+land-requires c =
     let lawful = c.holds_fragment.ensures in
     is_table_of c.in_ok-table.table c.args.path c.push.new.self
     (Named c.in_ok-usual_start.field-0) c.args.entry c.in_ok-twin.field-0

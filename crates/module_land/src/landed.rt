@@ -6,7 +6,7 @@ ghost use Rattle.omos_model.specs.State.{landed};
 ghost use Rattle.module_table.specs.TableParts.{defined_in};
 ghost use Rattle.link_model.specs.Module.{found};
 
-use crate::evaluated::Found;
+use link_model::Found;
 use module_table::Table;
 use omos_base::{NoMemory, Row, Shared};
 use omos_model::{Entry, Landing, Mark, MarkRow};

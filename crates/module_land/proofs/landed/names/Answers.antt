@@ -1,8 +1,8 @@
 use Rattle.std.proofs.Common.{◌∙◌, ap, map}
 use Rattle.link_model.specs.Module.{found}
-use Rattle.link_model.proofs.Founds.{found_held, found_of}
-use Rattle.link_model.proofs.Taken.{taken_all}
-use Rattle.link_model.proofs.landed.names.Goals as goal
+use Rattle.module_land.proofs.Founds.{found_held, found_of}
+use Rattle.module_land.proofs.Taken.{taken_all}
+use Rattle.module_land.proofs.landed.names.Goals as goal
 
 pub returns : goal.returns
 returns c n =

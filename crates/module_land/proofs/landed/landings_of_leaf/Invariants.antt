@@ -1,7 +1,7 @@
 use Rattle.std.proofs.Common.{◌≡◌, map, take}
 use Rattle.omos_model.specs.State.{landed}
 use Rattle.module_table.specs.TableParts.{defined_in}
-use Rattle.link_model.proofs.landed.landings_of_leaf.Given as goal
+use Rattle.module_land.proofs.landed.landings_of_leaf.Given as goal
 
 abbrev pub invariant-loop-mark : goal.invariant-loop-mark
 invariant-loop-mark l =

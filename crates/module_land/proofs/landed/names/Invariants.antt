@@ -1,6 +1,6 @@
 use Rattle.std.proofs.Common.{◌≡◌, ◌++◌, map}
-use Rattle.link_model.proofs.Founds.{found_of}
-use Rattle.link_model.proofs.landed.names.Given as goal
+use Rattle.module_land.proofs.Founds.{found_of}
+use Rattle.module_land.proofs.landed.names.Given as goal
 
 abbrev pub invariant-loop-name : goal.invariant-loop-name
 invariant-loop-name l =

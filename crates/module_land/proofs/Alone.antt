@@ -23,8 +23,9 @@ use Rattle.omos_model.proofs.Names.{same_name-refl}
 use Rattle.omos_model.proofs.Walk.{after_leaf, has_room}
 use Rattle.module_table.specs.Stands.{StandsForLeaf}
 use Rattle.module_table.specs.TableParts.{TableParts}
-use Rattle.link_model.specs.Module.{IsTableOf, IsTermOf, alone, terms_with}
+use Rattle.link_model.specs.Module.{IsTermOf, alone, terms_with}
 use Rattle.link_model.specs.Program.{Terms, start_name, terms_of}
+use Rattle.module_land.specs.Land.{IsTableOf}
 
 abbrev term_of : Name → FragmentParts → Term
 term_of p f = Leaf (site_of p 0) 0 f
