@@ -6,6 +6,7 @@
 
 mod evaluated;
 pub mod examples;
+mod groups;
 mod landed;
 pub mod laws;
 mod layout;
@@ -14,6 +15,7 @@ mod made;
 mod planned;
 
 pub use evaluated::{Evaluated, Found};
+pub use groups::{ByGroup, Groups};
 pub use layout::Layout;
 pub use linked::Linked;
 pub use made::usual_start;
