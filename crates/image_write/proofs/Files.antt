@@ -8,10 +8,10 @@ use Rattle.omos_model.specs.declared.fragment.Group.TheVariants.{Zeros}
 use Rattle.omos_model.specs.declared.refusal.Refusal.{Refusal}
 use Rattle.link_model.specs.ImageBytes.{byte_of, entry_address, file_bytes, header_page, image_bytes, overflow, unless_overflow}
 use Rattle.link_model.specs.Layout.{slot_number}
-use Rattle.link_model.specs.Module.{Module, Placing, found}
-use Rattle.link_model.specs.Plan.{Plan, entry_of}
+use Rattle.link_model.specs.Module.{Module, Placing}
+use Rattle.link_model.specs.Plan.{Plan}
 use Rattle.link_model.specs.Program.{references}
-use Rattle.image_write.specs.declared.groups.Groups.{Groups}
+use Rattle.link_model.specs.declared.groups.Groups.{Groups}
 use Rattle.image_write.specs.declared.slots.SlotTable.{SlotTable}
 use Rattle.image_write.specs.Addresses.{IsTable}
 use Rattle.image_write.specs.Filled.{IsFilled, filled_byte, refusal_in}
@@ -34,7 +34,7 @@ unfolding image_bytes
 image-err plan base x some = ap (λ o. unless_overflow o (file_bytes plan base)) some
 
 -- a page, and zeros behind it
-pub rest-size : (items page : List ℕ) (head n : ℕ) → items ≡ page ++ zeros n → head ≡ length page → length items - head ≡ n
+pub rest-size : (items page : List ℕ) (head n : ℕ) → items ≡ page ++ zeros n → head ≡ length page → length items ≡ head + n
 unfolding zeros
 rest-size items page head n e h =
     let all = ap length e ∙ length-append page (replicate n 0) in
@@ -43,9 +43,6 @@ rest-size items page head n e h =
 rest-zeros : (items page : List ℕ) (head n : ℕ) → items ≡ page ++ zeros n → head ≡ length page → drop head items ≡ replicate n 0
 unfolding zeros
 rest-zeros items page head n e h = ap (drop head) e ∙ drop_at page (replicate n 0) head (sym h)
-
-pub moved : (P : ℕ → List (List ℕ) → Type 0) (n m : ℕ) (ps qs : List (List ℕ)) → P m qs → n ≡ m → ps ≡ qs → P n ps
-moved P n m ps qs h e f = subst (λ (k : ℕ). P k ps) (sym e) (subst (P m) (sym f) h)
 
 slots-stand : (x : Groups) (m : Module) (l : Placing) (table : SlotTable) (base : ℕ) → IsSound x m l
     → IsTable table l.slots (base + x.slots) → SlotsStand (plan_with m l) base table
@@ -57,7 +54,7 @@ entry-same plan base = λ i. unwrap_or (option_map (λ t. address-same plan base
 
 pub written-ok : (x : Groups) (m : Module) (l : Placing) (table : SlotTable) (base entry head : ℕ) (items new page : List ℕ)
     → IsSound x m l → IsTable table l.slots (base + x.slots)
-    → entry ≡ entry_in l.places base (entry_of (found m.names) m.start) → page ≡ page_in x base entry
+    → entry ≡ entry_in l.places base l.entry → page ≡ page_in x base entry
     → items ≡ page ++ zeros x.begins.zeros → head ≡ length page → take head new ≡ take head items
     → IsFilled (plan_with m l) base table m.leaves (drop head new) (drop head items)
     → image_bytes (plan_with m l) base ≡ Ok new

@@ -4,8 +4,8 @@ use Rattle.std.proofs.lemmas.List.Elements.{filter-append}
 use Rattle.std.proofs.lemmas.List.{map-append, take_more}
 use Rattle.elf_words.specs.declared.phdr.Phdr.{Phdr}
 use Rattle.omos_model.specs.declared.fragment.Group.{Group}
-use Rattle.image_write.specs.declared.groups.Groups.{Groups}
-use Rattle.link_layout.specs.ByGroup.{bytes_of}
+use Rattle.link_model.specs.declared.groups.Groups.{Groups}
+use Rattle.link_model.specs.Groups.{bytes_of}
 use Rattle.image_write.specs.Headers.{load_in, loads_in}
 
 loads-append : (groups : Groups) (base : ℕ) (xs ys : List Group)

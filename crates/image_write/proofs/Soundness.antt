@@ -4,18 +4,20 @@ use Rattle.std.specs.Option.{option_or}
 use Rattle.std.proofs.lemmas.Bool.Decides.{nat_tests}
 use Rattle.std.proofs.lemmas.List.Elements.{All-weaker}
 use Rattle.omos_model.specs.declared.fragment.Group.{Group}
+use Rattle.omos_model.specs.declared.fragment.Group.TheVariants.{Code, Consts, Vars, Zeros}
 use Rattle.omos_model.specs.declared.refusal.Refusal.{Refusal}
 use Rattle.link_model.specs.Laws.{BoundsLaw}
-use Rattle.link_model.specs.Layout.{all_pages, pieces_of, places_of, slots_of}
+use Rattle.link_model.specs.Groups.{groups_of}
+use Rattle.link_model.specs.Layout.{all_pages, group_begin, places_of, slots_of}
 use Rattle.link_model.specs.Module.{IsModule, plan_of_module, Module, Placing, found, parts_of_module, placing_of, terms_of_module}
 use Rattle.link_model.specs.Plan.{Plan, no_start, plan_refusal, planned, too_large, unless_refused, unresolved}
 use Rattle.link_model.specs.Program.{Parts, object_of}
+use Rattle.link_layout.proofs.Groups.{begins-of_groups, sizes-of_groups}
 use Rattle.link_layout.proofs.Parts.{pieces-parts}
 use Rattle.link_layout.proofs.Planned.{as_many}
-use Rattle.image_write.specs.declared.groups.Groups.{Groups}
-use Rattle.link_layout.specs.ByGroup.{bytes_of}
+use Rattle.link_model.specs.declared.groups.Groups.{Groups}
 use Rattle.image_write.specs.Groups.{AreGroups}
-use Rattle.link_layout.specs.Pieces.{AreBounded, IsLawful, all_pieces, pieces_in}
+use Rattle.link_layout.specs.Pieces.{AreBounded, IsLawful, pieces_in}
 use Rattle.image_write.specs.Plans.{plan_with}
 use Rattle.image_write.specs.Sound.{IsLaid, IsSound}
 use Rattle.image_write.specs.Standing.{LeavesStand}
@@ -57,20 +59,27 @@ is-planned m l laid =
           (first_none (too_large parts) (option_or (no_start (found m.names) m.start) (unresolved parts)) split.0);
     }
 
-pub few-slots : (m : Module) (l : Placing) → IsLaid m l → length l.slots ≤ 2 ^ 20
-few-slots m l laid =
-    let p = is-planned m l laid in
-    let pages = p.pages in
-    let within = slots-inside (parts_of_module m) in
-    let many : length l.slots ≡ length (slots_of (parts_of_module m)) = ap (λ (y : Placing). length y.slots) p.placing in
-    omega arith
+-- ---- groups
+
+near : (g : Group) (parts : Parts) → all_pages parts ≤ 2047 → group_begin g parts ≤ 2 ^ 52
+near Code parts few = omega arith
+near Consts parts few = omega arith
+near Vars parts few = omega arith
+near Zeros parts few = omega arith
+
+groups-stand : (x : Groups) (parts : Parts) → x ≡ groups_of parts → AreGroups x parts
+groups-stand x parts is =
+    record {
+      sizes = sizes-of_groups x parts is;
+      begins = begins-of_groups x parts is;
+      slots = ap (λ (y : Groups). y.slots) is;
+    }
 
 -- ---- the module
 
 pub sound : (law : BoundsLaw) (x : Groups) (m : Module) (l : Placing) → IsModule m → IsLaid m l
-    → ((parts : Parts) → pieces_of parts ≡ all_pieces m.leaves → slots_of parts ≡ l.slots → AreGroups x parts)
-    → ((g : Group) → bytes_of x.begins g ≤ 2 ^ 52) → All IsLawful m.leaves → IsSound x m l
-sound law x m l ism laid groups near lawful =
+    → x ≡ l.groups → All IsLawful m.leaves → IsSound x m l
+sound law x m l ism laid groups lawful =
     let parts = parts_of_module m in
     let p = is-planned m l laid in
     let placing = p.placing in
@@ -79,6 +88,7 @@ sound law x m l ism laid groups near lawful =
     let same = pieces-parts m.leaves m.landings count in
     let bounds : All (λ leaf. AreBounded (pieces_in leaf)) m.leaves =
     All-weaker IsLawful (λ leaf. AreBounded (pieces_in leaf)) (λ leaf h. bounded (object_of leaf) h) m.leaves lawful in
+    let are : AreGroups x parts = groups-stand x parts (groups ∙ ap (λ (y : Placing). y.groups) placing) in
     let places : l.places ≡ places_of parts = ap (λ (y : Placing). y.places) placing in
     let slots : l.slots ≡ slots_of parts = ap (λ (y : Placing). y.slots) placing in
     let stand : LeavesStand parts l.places m.leaves =
@@ -87,12 +97,12 @@ sound law x m l ism laid groups near lawful =
     let many : length l.slots ≡ length (slots_of parts) = ap length slots in
     record {
       plan = p.plan ∙ ap Ok (sym (ap (plan_with m) placing));
-      groups = groups parts same (sym slots);
-      near = near;
+      groups = are;
+      near = λ g. subst (λ (n : ℕ). n ≤ 2 ^ 52) (sym (are.begins g)) (near g parts pages);
       small = omega arith;
       leaves = (law m ism).leaves;
       count = count;
-      few = few-slots m l laid;
+      few = omega arith;
       lawful = lawful;
       same = same;
       stand = stand;

@@ -4,7 +4,7 @@ use Rattle.omos_model.specs.declared.fragment.Group.TheVariants.{Zeros}
 use Rattle.link_model.specs.Program.{Parts}
 use Rattle.link_model.specs.Layout.{group_begin, slots_begin}
 use Rattle.link_layout.specs.Layout.{AreBegins, AreSizes}
-use Rattle.image_write.specs.declared.groups.Groups.{Groups}
+use Rattle.link_model.specs.declared.groups.Groups.{Groups}
 
 -- these are the sizes and begins of a program's groups, and the begin of its slots
 pub record AreGroups (x : Groups) (parts : Parts) : Type 0 where

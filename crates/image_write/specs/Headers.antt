@@ -11,8 +11,8 @@ use Rattle.omos_model.specs.declared.fragment.Group.{Group}
 use Rattle.omos_model.specs.declared.fragment.Group.TheVariants.{Code, Consts, Vars, Zeros}
 use Rattle.link_model.specs.Layout.{page}
 use Rattle.link_model.specs.ImageBytes.{file_size, flags_of, stack}
-use Rattle.image_write.specs.declared.groups.Groups.{Groups}
-use Rattle.link_layout.specs.ByGroup.{bytes_of}
+use Rattle.link_model.specs.declared.groups.Groups.{Groups}
+use Rattle.link_model.specs.Groups.{bytes_of}
 
 -- PT_LOAD of a group that begins there and has this size
 abbrev pub load_at : ℕ → Group → ℕ → ℕ → Phdr

@@ -4,9 +4,9 @@ use Rattle.omos_model.specs.declared.fragment.Group.{Group}
 use Rattle.link_model.specs.Layout.{pieces_of, slots_begin}
 use Rattle.link_model.specs.Module.{Module, Placing, parts_of_module, placing_of, plan_of_module}
 use Rattle.link_model.specs.Plan.{Plan}
-use Rattle.image_write.specs.declared.groups.Groups.{Groups}
+use Rattle.link_model.specs.declared.groups.Groups.{Groups}
 use Rattle.image_write.specs.Addresses.{AreLow}
-use Rattle.link_layout.specs.ByGroup.{bytes_of}
+use Rattle.link_model.specs.Groups.{bytes_of}
 use Rattle.image_write.specs.Fields.{AreFieldsInside}
 use Rattle.image_write.specs.Groups.{AreGroups, file_size}
 use Rattle.link_layout.specs.Pieces.{IsLawful, all_pieces}

@@ -1,42 +1,45 @@
 //! The pages of a file behind its header page.
 
-ghost use Rattle.std.specs.Prelude.{◌≡◌, ◌+◌, ◌*◌, ◌≤◌, length};
-ghost use Rattle.link_model.specs.Layout.{slots_begin};
+ghost use Rattle.std.specs.Prelude.{◌≡◌, ◌+◌, ◌≤◌, drop, length, take};
 ghost use Rattle.link_model.specs.Module.{parts_of_module};
-ghost use Rattle.image_write.specs.Addresses.{AreLow, max_place};
-ghost use Rattle.image_write.specs.Fields.{AreFieldsInside};
-ghost use Rattle.image_write.specs.Filled.{Fills};
+ghost use Rattle.image_write.specs.Addresses.{max_place};
+ghost use Rattle.image_write.specs.Groups.{file_size};
 ghost use Rattle.image_write.specs.Plans.{plan_with};
-ghost use Rattle.image_write.specs.Sections.{AreInside};
+ghost use Rattle.image_write.specs.Sound.{IsSound};
+ghost use Rattle.image_write.specs.Written.{FillsBehind};
 
 use crate::fields::{Ground, patch_fields};
 use crate::sections::copy_sections;
 use crate::slots::write_slots;
-use link_model::{Evaluated, Layout};
+use link_model::{Evaluated, Groups, Layout};
 use omos_model::Refusal;
 
-/// Writes the pieces, the slots that begin at this place, and the fields; or refuses the first
-/// field whose value doesn't fit: L13.
+/// Writes the pieces, the slots and the fields over the bytes behind the head, which are as many as
+/// the module's pages in a file have; or refuses the first field whose value doesn't fit: L13.
 pub fn fill(
-    body: &mut [u8],
+    bytes: &mut Vec<u8>,
+    head: usize,
     ground: &Ground,
-    begin: usize,
+    groups: &Groups,
     evaluated: &Evaluated,
     layout: &Layout,
 ) -> Result<(), Refusal>
+    requires sound { IsSound groups.now evaluated.now layout.now }
+    requires size { length bytes.old.items
+        ≡ head + file_size (parts_of_module evaluated.now) }
     requires places { ground.now.places.now ≡ layout.now.places }
-    requires begin { begin ≡ slots_begin (parts_of_module evaluated.now) }
-    requires low { AreLow ground.now.places.now }
     requires base { ground.now.base ≤ max_place }
-    requires few { length evaluated.now.leaves ≤ 256 }
-    requires count { length evaluated.now.landings ≡ length evaluated.now.leaves }
-    requires pieces { AreInside (length body.old) ground.now.places.now evaluated.now.leaves }
-    requires slots { begin + 8 * length layout.now.slots ≤ length body.old }
-    requires fields { AreFieldsInside (length body.old) ground.now.places.now evaluated.now.leaves }
-    ensures { Fills (plan_with evaluated.now layout.now) ground.now.base ground.now.table.now
-        evaluated.now.leaves result body.new body.old }
+    ensures { FillsBehind head (plan_with evaluated.now layout.now) ground.now.base
+        ground.now.table.now evaluated.now.leaves result bytes.new.items bytes.old.items }
 {
+    let (_, body) = bytes.as_mut_slice().split_at_mut(head);
     copy_sections(body, ground.places, evaluated.leaves());
-    write_slots(body, ground.places, ground.base, layout.slots(), begin);
+    write_slots(
+        body,
+        ground.places,
+        ground.base,
+        layout.slots(),
+        groups.slots as usize,
+    );
     patch_fields(body, ground, evaluated.leaves(), evaluated.landings())
 }

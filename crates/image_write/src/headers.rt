@@ -5,11 +5,11 @@ ghost use Rattle.std.specs.List.{flat_map};
 ghost use Rattle.elf_words.specs.Phdr.{phdr_bytes};
 ghost use Rattle.omos_model.specs.declared.fragment.Group.{Group};
 ghost use Rattle.link_model.specs.ImageBytes.{file_size, flags_of, stack};
-ghost use Rattle.link_layout.specs.ByGroup.{bytes_of};
+ghost use Rattle.link_model.specs.Groups.{bytes_of};
 ghost use Rattle.image_write.specs.Headers.{ehdr_with, headers_in, load_in, loads_in, page_in};
 
-use crate::groups::Groups;
 use elf_words::{Ehdr, Phdr, push_record};
+use link_model::Groups;
 use omos_base::{Bytes, NoMemory, Row};
 use omos_model::Group;
 use std::alloc::Global;

@@ -1,19 +1,31 @@
 -- The plan of a module, from the refusals that it could have.
-use Rattle.std.proofs.Common.{◌≡◌, ℕ, ◌≤◌, cond, length, Option, Some, None, Result, Ok, max}
-use Rattle.std.proofs.Common.{sym, ap, ◌∙◌, arith}
+use Rattle.std.proofs.Common.{◌≡◌, ℕ, ◌≤◌, cond, length, map, Option, Some, None, Result, Ok, Err}
+use Rattle.std.proofs.Common.{max, refl, sym, ap, ◌∙◌, arith}
 use Rattle.std.specs.Prelude.{nat_lt}
+use Rattle.std.specs.List.{zip}
 use Rattle.std.specs.Option.{option_or}
 use Rattle.std.proofs.lemmas.Bool.{le-ltb}
 use Rattle.std.proofs.lemmas.List.{length-map}
+use Rattle.omos_base.specs.declared.fault.Fault.{Fault}
+use Rattle.omos_base.specs.declared.fault.Fault.TheVariants.{Refused, NoMemory}
+use Rattle.omos_model.specs.Definition.{Meaning}
 use Rattle.omos_model.specs.State.{states}
+use Rattle.omos_model.specs.declared.entry.Start.{Start}
+use Rattle.omos_model.specs.declared.entry.Start.TheVariants.{Named, NoEntry}
 use Rattle.omos_model.specs.declared.mark.MarkRow.{MarkRow}
+use Rattle.omos_model.specs.declared.mark.Target.{Target}
 use Rattle.omos_model.specs.declared.refusal.Refusal.{Refusal}
 use Rattle.omos_model.specs.declared.refusal.Refusal.TheVariants.{ImageTooLarge}
+use Rattle.link_model.specs.Groups.{groups_of}
 use Rattle.link_model.specs.Layout.{all_pages, pages_in_all, places_of, slots_of}
-use Rattle.link_model.specs.Module.{IsModule, Module, Placing, found, parts_of_module}
-use Rattle.link_model.specs.Module.{placing_of, plan_of_module, terms_of_module}
-use Rattle.link_model.specs.Plan.{Plan, no_start, planned, too_large, unless_refused, unresolved}
+use Rattle.link_model.specs.Module.{IsModule, Module, Placing, found, part_with, parts_of_module}
+use Rattle.link_model.specs.Module.{placing_of, plan_of_module, terms_with}
+use Rattle.link_model.specs.Plan.{Plan, entry_of, no_start, plan_of_parts, planned, too_large}
+use Rattle.link_model.specs.Plan.{unless_refused, unresolved}
 use Rattle.link_model.specs.Program.{Parts, landings_of}
+use Rattle.link_layout.specs.declared.program.Program.{Program}
+use Rattle.link_layout.specs.IsLaid.{IsLaid}
+use Rattle.link_layout.specs.Program.{IsProgramOf, Lays, meaning_in, parts_in, plan_in}
 
 -- a module has a row of landings for each leaf
 pub as_many : (m : Module) → IsModule m → length m.landings ≡ length m.leaves
@@ -37,18 +49,49 @@ at_least_one n k e = omega arith
 abbrev first_of : Option Refusal → Option Refusal → Option Refusal → Option Refusal
 first_of large start open_one = option_or large (option_or start open_one)
 
-abbrev plan_unless : Module → Option Refusal → Result Plan Refusal
-plan_unless m refusal =
-    unless_refused refusal (planned (parts_of_module m) (found m.names) (terms_of_module m))
+abbrev plan_unless : Program → ℕ → ℕ → Option Refusal → Result Plan Refusal
+plan_unless p lo hi refusal =
+    unless_refused refusal (planned (parts_in p) (meaning_in p) (terms_with p.start.now lo hi))
 
-pub laid : (m : Module) (l : Placing)
-    → too_large (parts_of_module m) ≡ None → no_start (found m.names) m.start ≡ None
-    → unresolved (parts_of_module m) ≡ None
-    → l.pages ≡ pages_in_all (parts_of_module m) → l.places ≡ places_of (parts_of_module m)
-    → l.slots ≡ slots_of (parts_of_module m)
-    → (plan : Plan) × (plan_of_module m ≡ Ok plan) × (l ≡ placing_of plan)
-laid m l small started bound pages places slots = (
-  planned (parts_of_module m) (found m.names) (terms_of_module m),
-  (λ i. plan_unless m (first_of (small i) (started i) (bound i))),
-  (λ i. record { pages = pages i; places = places i; slots = slots i }),
+pub laid : (p : Program) (l : Placing)
+    → too_large (parts_in p) ≡ None → no_start (meaning_in p) p.start.now ≡ None
+    → unresolved (parts_in p) ≡ None
+    → l.pages ≡ pages_in_all (parts_in p) → l.groups ≡ groups_of (parts_in p)
+    → l.places ≡ places_of (parts_in p) → l.slots ≡ slots_of (parts_in p)
+    → l.entry ≡ entry_of (meaning_in p) p.start.now
+    → (lo hi : ℕ) → (plan : Plan) × (plan_in p lo hi ≡ Ok plan) × (l ≡ placing_of plan)
+laid p l small started bound pages groups places slots entry lo hi = (
+  planned (parts_in p) (meaning_in p) (terms_with p.start.now lo hi),
+  (λ i. plan_unless p lo hi (first_of (small i) (started i) (bound i))),
+  (λ i. record {
+    pages = pages i;
+    groups = groups i;
+    places = places i;
+    slots = slots i;
+    entry = entry i;
+  }),
 )
+
+-- ---- a module
+
+-- one name's meaning decides
+one_meaning : (parts : Parts) (meaning : Meaning) (start : Start) (entry : Option Target) (lo hi : ℕ)
+    → entry ≡ entry_of meaning start
+    → plan_of_parts parts (λ name. entry) (terms_with start lo hi)
+    ≡ plan_of_parts parts meaning (terms_with start lo hi)
+one_meaning parts meaning (Named name) entry lo hi e =
+    ap (λ o. plan_of_parts parts (λ n. o) (terms_with (Named name) lo hi)) e
+one_meaning parts meaning NoEntry entry lo hi e = refl
+
+plan-same : (m : Module) (p : Program) → IsProgramOf m p → plan_in p m.lo m.hi ≡ plan_of_module m
+plan-same m p h =
+    (λ i. plan_of_parts (map part_with (zip (h.leaves i) (h.landings i))) (λ name. p.entry)
+    (terms_with (h.start i) m.lo m.hi))
+    ∙ one_meaning (parts_of_module m) (found m.names) m.start p.entry m.lo m.hi h.entry
+
+pub laid-module : (m : Module) (p : Program) (result : Result Placing (Fault Refusal))
+    → IsProgramOf m p → Lays result p → IsLaid result m
+laid-module m p (Ok l) h laid =
+    let plan = laid m.lo m.hi in (plan.0, sym (plan-same m p h) ∙ plan.1, plan.2)
+laid-module m p (Err (Refused x)) h laid = sym (plan-same m p h) ∙ laid m.lo m.hi
+laid-module m p (Err NoMemory) h laid = tt

@@ -6,8 +6,8 @@ use Rattle.omos_model.specs.declared.entry.Entry.{Entry}
 use Rattle.omos_model.specs.declared.fragment.Piece.{Piece}
 use Rattle.link_model.specs.Program.{Parts}
 use Rattle.link_model.specs.Layout.{begin_of, place_of, places_behind}
-use Rattle.link_layout.specs.declared.by_group.ByGroup.{ByGroup}
-use Rattle.link_layout.specs.ByGroup.{bytes_of}
+use Rattle.link_model.specs.declared.groups.ByGroup.{ByGroup}
+use Rattle.link_model.specs.Groups.{bytes_of}
 use Rattle.link_layout.specs.Layout.{AreBegins, AreEnds, places_over}
 use Rattle.link_layout.specs.Pieces.{all_pieces, pieces_in}
 

@@ -5,8 +5,8 @@ use Rattle.omos_model.specs.declared.fragment.Group.{Group}
 use Rattle.omos_model.specs.declared.fragment.Piece.{Piece}
 use Rattle.link_model.specs.Program.{Parts}
 use Rattle.link_model.specs.Layout.{end_of, group_begin, group_size, places_behind}
-use Rattle.link_layout.specs.declared.by_group.ByGroup.{ByGroup}
-use Rattle.link_layout.specs.ByGroup.{bytes_of}
+use Rattle.link_model.specs.declared.groups.ByGroup.{ByGroup}
+use Rattle.link_model.specs.Groups.{bytes_of}
 use Rattle.link_layout.specs.Pieces.{pieces_in}
 
 -- the groups that have these pieces end there

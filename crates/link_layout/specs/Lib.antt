@@ -4,4 +4,5 @@ pub mod Slots
 pub mod Targets
 pub mod References
 pub mod Layout
+pub mod Program
 pub mod IsLaid

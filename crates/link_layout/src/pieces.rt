@@ -3,12 +3,12 @@
 ghost use Rattle.std.specs.Prelude.{◌≡◌, ◌+◌, ◌^◌, ◌≤◌, All, fold, length};
 ghost use Rattle.omos_model.specs.declared.fragment.Group.{Group};
 ghost use Rattle.link_model.specs.Layout.{begin_of, end_with};
-ghost use Rattle.link_layout.specs.ByGroup.{bytes_of};
+ghost use Rattle.link_model.specs.Groups.{bytes_of};
 ghost use Rattle.link_layout.specs.Layout.{AreEnds};
 ghost use Rattle.link_layout.specs.Pieces.{AreBounded, IsBounded, IsLawful, all_pieces, pieces_in};
 
-use crate::by_group::ByGroup;
 use crate::offsets::aligned;
+use link_model::ByGroup;
 use omos_base::Shared;
 use omos_model::{Entry, Piece};
 
@@ -60,11 +60,19 @@ pub fn ends_of(leaves: &[Shared<Entry>]) -> ByGroup
     requires { length leaves.now ≤ 256 }
     ensures ends { AreEnds result (all_pieces leaves.now) }
     ensures near { (g : Group) → bytes_of result g ≤ 2 ^ 48 }
-    ensures lawful { All IsLawful leaves.now }
 {
     let mut ends = ByGroup::EMPTY;
     for leaf in leaves {
         lay_pieces(&mut ends, pieces_in(leaf));
     }
     ends
+}
+
+/// The leaves' objects are lawful fragments, as the type of each keeps it. Nothing is computed.
+pub fn are_lawful(leaves: &[Shared<Entry>])
+    ensures { All IsLawful leaves.now }
+{
+    for leaf in leaves {
+        let _pieces = pieces_in(leaf);
+    }
 }

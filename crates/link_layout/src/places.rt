@@ -5,12 +5,12 @@ ghost use Rattle.omos_model.specs.declared.fragment.Group.{Group};
 ghost use Rattle.omos_model.specs.declared.fragment.Piece.{Piece};
 ghost use Rattle.link_model.specs.Layout.{end_with, places_behind};
 ghost use Rattle.link_model.specs.Program.{Parts};
-ghost use Rattle.link_layout.specs.ByGroup.{bytes_of};
+ghost use Rattle.link_model.specs.Groups.{bytes_of};
 ghost use Rattle.link_layout.specs.Layout.{AreBegins, AreEnds, places_over};
 ghost use Rattle.link_layout.specs.Pieces.{AreBounded};
 
-use crate::by_group::ByGroup;
 use crate::pieces::{lay_piece, pieces_in};
+use link_model::ByGroup;
 use omos_base::{NoMemory, Row, Shared};
 use omos_model::{Entry, Piece};
 use std::alloc::Global;

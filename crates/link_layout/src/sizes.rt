@@ -4,11 +4,12 @@ ghost use Rattle.std.specs.Prelude.{◌≡◌, ◌+◌, ◌*◌, ◌^◌, ◌<�
 ghost use Rattle.omos_model.specs.declared.fragment.Group.{Group};
 ghost use Rattle.link_model.specs.Layout.{all_pages, end_with_slots, pieces_of, slots_of};
 ghost use Rattle.link_model.specs.Program.{Parts};
-ghost use Rattle.link_layout.specs.ByGroup.{IsWithin, bytes_of};
+ghost use Rattle.link_model.specs.Groups.{bytes_of, groups_of};
+ghost use Rattle.link_layout.specs.ByGroup.{IsWithin};
 ghost use Rattle.link_layout.specs.Layout.{AreBegins, AreEnds, AreSizes};
 
-use crate::by_group::ByGroup;
 use crate::offsets::{PAGE, aligned, pages_of};
+use link_model::{ByGroup, Groups};
 use omos_model::Target;
 
 /// Where Vars ends, behind its slots of 8 bytes. They begin at the next multiple of 8.
@@ -26,7 +27,7 @@ fn end_with_slots(end: u64, slots: &[Target]) -> u64
 
 /// The sizes of the groups whose pieces end there, and that have these slots: Vars ends with its
 /// slots, the others with their pieces.
-pub fn sizes_of(ends: &ByGroup, slots: &[Target]) -> ByGroup
+fn sizes_of(ends: &ByGroup, slots: &[Target]) -> ByGroup
     requires near { (g : Group) → bytes_of ends.now g ≤ 2 ^ 48 }
     requires few { length slots.now ≤ 1048576 }
     ensures sizes { (parts : Parts) → AreEnds ends.now (pieces_of parts)
@@ -41,7 +42,7 @@ pub fn sizes_of(ends: &ByGroup, slots: &[Target]) -> ByGroup
 
 /// Where groups of these sizes begin, counted from the base: Code at 0, each other one where the
 /// pages of the one before end.
-pub fn begins_of(sizes: &ByGroup) -> ByGroup
+fn begins_of(sizes: &ByGroup) -> ByGroup
     requires { IsWithin (2 ^ 49) sizes.now }
     ensures begins { (parts : Parts) → AreSizes sizes.now parts → AreBegins result parts }
     ensures near { (g : Group) → bytes_of result g ≤ 2 ^ 52 }
@@ -54,6 +55,24 @@ pub fn begins_of(sizes: &ByGroup) -> ByGroup
         consts: PAGE * consts,
         vars: PAGE * vars,
         zeros: PAGE * zeros,
+    }
+}
+
+/// Where the groups stand whose pieces end there, and that have these slots.
+pub fn groups_of(ends: &ByGroup, slots: &[Target]) -> Groups
+    requires near { (g : Group) → bytes_of ends.now g ≤ 2 ^ 48 }
+    requires few { length slots.now ≤ 1048576 }
+    ensures groups { (parts : Parts) → AreEnds ends.now (pieces_of parts)
+        → slots_of parts ≡ slots.now → result ≡ groups_of parts }
+    ensures sizes { IsWithin (2 ^ 49) result.sizes }
+    ensures begins { (g : Group) → bytes_of result.begins g ≤ 2 ^ 52 }
+{
+    let sizes = sizes_of(ends, slots);
+    let begins = begins_of(&sizes);
+    Groups {
+        sizes,
+        begins,
+        slots: begins.vars + aligned(8, ends.vars),
     }
 }
 

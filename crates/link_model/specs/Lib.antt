@@ -1,6 +1,7 @@
 pub mod Field
 pub mod Program
 pub mod Layout
+pub mod Groups
 pub mod Plan
 pub mod ImageBytes
 pub mod Answer

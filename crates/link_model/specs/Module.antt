@@ -19,6 +19,8 @@ use Rattle.omos_model.specs.declared.mark.Target.{Target}
 use Rattle.omos_model.specs.declared.refusal.Refusal.{Refusal}
 use Rattle.omos_model.specs.Visit.{Visit}
 use Rattle.link_model.specs.declared.evaluated.Found.{Found}
+use Rattle.link_model.specs.declared.groups.Groups.{Groups}
+use Rattle.link_model.specs.Groups.{groups_of}
 use Rattle.link_model.specs.Program.{Part, Parts, Terms, landings_of, object_of, terms_of}
 use Rattle.link_model.specs.Plan.{Plan, plan_of, plan_of_parts}
 use Rattle.link_model.specs.Answer.{answer}
@@ -97,18 +99,27 @@ pub record IsEvaluation (m : Module) (t : Term) (v : Visit) : Type 0 where
 abbrev pub IsModule : Module → Type 0
 IsModule m = (t : Term) × (v : Visit) × IsEvaluation m t v
 
--- what contracts see of a layout
+-- what contracts see of a layout: all that laying out finds
 pub record Placing : Type 0 where
   pub pages : ℕ
+  pub groups : Groups
   pub places : List (List ℕ)
   pub slots : List Target
+  pub entry : Option Target
 
 -- where a piece of a leaf stands, if it is there
 abbrev pub piece_place : Placing → ℕ → ℕ → Option ℕ
 piece_place l leaf piece = slice_get (unwrap_or (slice_get l.places leaf) []) piece
 
 abbrev pub placing_of : Plan → Placing
-placing_of plan = record { pages = plan.pages; places = plan.places; slots = plan.slots }
+placing_of plan =
+    record {
+      pages = plan.pages;
+      groups = groups_of plan.parts;
+      places = plan.places;
+      slots = plan.slots;
+      entry = plan.entry;
+    }
 
 -- a module with its layout
 pub record Ready : Type 0 where

@@ -7,6 +7,7 @@
 
 mod evaluated;
 pub mod examples;
+mod groups;
 pub mod laws;
 mod layout;
 mod linked;
@@ -14,6 +15,7 @@ mod planned;
 mod start;
 
 pub use evaluated::{Evaluated, Found};
+pub use groups::{ByGroup, Groups};
 pub use layout::Layout;
 pub use linked::Linked;
 pub use planned::Planned;

@@ -1,33 +1,17 @@
 use Rattle.std.proofs.Common.{ℕ, ◌+◌, List, Ok, ap, subst, sym, ◌∙◌, arith}
 use Rattle.omos_model.specs.declared.fragment.Group.TheVariants.{Zeros}
 use Rattle.omos_model.specs.declared.mark.Target.{Target}
-use Rattle.link_model.specs.Module.{found}
-use Rattle.link_model.specs.Plan.{entry_of}
 use Rattle.image_write.specs.Addresses.{IsTable}
-use Rattle.image_write.specs.Fields.{AreFieldsInside}
 use Rattle.image_write.specs.Plans.{plan_with}
-use Rattle.image_write.specs.Sections.{AreInside}
 use Rattle.image_write.specs.Written.{entry_in}
-use Rattle.image_write.proofs.Files.{moved, rest-size, written-err, written-ok}
+use Rattle.image_write.proofs.Files.{rest-size, written-err, written-ok}
 use Rattle.image_write.proofs.file.write.Goals as goal
 
-pub fill_behind-requires-clause-pieces : goal.fill_behind-requires-clause-pieces
-fill_behind-requires-clause-pieces c =
+pub fill-requires-clause-size : goal.fill-requires-clause-size
+fill-requires-clause-size c =
     let sound = c.groups_in-groups.ensures.sound in
-    let size = rest-size c.into_vec-bytes.result.items c.in_ok-page.page c.len-head.result c.groups_in-groups.result.begins.zeros (c.into_vec-bytes.ensures ∙ c.in_ok-push_zeros.ensures.added) c.len-head.ensures ∙ sound.groups.begins Zeros in
-    moved (λ n ps. AreInside n ps c.args.evaluated.now.leaves) _ _ _ _ sound.pieces size c.places.ensures
-
-pub fill_behind-requires-clause-slots : goal.fill_behind-requires-clause-slots
-fill_behind-requires-clause-slots c =
-    let sound = c.groups_in-groups.ensures.sound in
-    let size = rest-size c.into_vec-bytes.result.items c.in_ok-page.page c.len-head.result c.groups_in-groups.result.begins.zeros (c.into_vec-bytes.ensures ∙ c.in_ok-push_zeros.ensures.added) c.len-head.ensures ∙ sound.groups.begins Zeros in
-    omega (arith, size, sound.slots, sound.groups.slots)
-
-pub fill_behind-requires-clause-fields : goal.fill_behind-requires-clause-fields
-fill_behind-requires-clause-fields c =
-    let sound = c.groups_in-groups.ensures.sound in
-    let size = rest-size c.into_vec-bytes.result.items c.in_ok-page.page c.len-head.result c.groups_in-groups.result.begins.zeros (c.into_vec-bytes.ensures ∙ c.in_ok-push_zeros.ensures.added) c.len-head.ensures ∙ sound.groups.begins Zeros in
-    moved (λ n ps. AreFieldsInside n ps c.args.evaluated.now.leaves) _ _ _ _ sound.fields size c.places.ensures
+    rest-size c.into_vec-bytes.result.items c.in_ok-page.page c.len-head.result c.groups_in-groups.result.now.begins.zeros (c.into_vec-bytes.ensures ∙ c.in_ok-push_zeros.ensures.added) c.len-head.ensures
+    ∙ ap (λ n. c.len-head.result + n) (sound.groups.begins Zeros)
 
 pub returns-in-Ok : goal.returns-in-Ok
 returns-in-Ok c =
@@ -35,10 +19,10 @@ returns-in-Ok c =
     let m = c.args.evaluated.now in
     let l = c.args.layout.now in
     let base = c.args.base in
-    let first = base + c.groups_in-groups.result.slots in
+    let first = base + c.groups_in-groups.result.now.slots in
     let table = subst (λ (s : List Target). IsTable c.in_ok-table.table s first) c.slots.ensures c.in_ok-table.ensures in
-    let entry = c.entry_in-entry.ensures ∙ ap (λ (ps : List (List ℕ)). entry_in ps base (entry_of (found m.names) m.start)) c.places.ensures in
-    let image = written-ok c.groups_in-groups.result m l c.in_ok-table.table base c.entry_in-entry.result c.len-head.result c.into_vec-bytes.result.items c.fill_behind.new.bytes.items c.in_ok-page.page sound table entry c.in_ok-page.ensures (c.into_vec-bytes.ensures ∙ c.in_ok-push_zeros.ensures.added) c.len-head.ensures c.in-Ok.ensures.0 c.in-Ok.ensures.1 in
+    let entry = c.entry_in-entry.ensures ∙ ap (λ (ps : List (List ℕ)). entry_in ps base l.entry) c.places.ensures in
+    let image = written-ok c.groups_in-groups.result.now m l c.in_ok-table.table base c.entry_in-entry.result c.len-head.result c.into_vec-bytes.result.items c.fill.new.bytes.items c.in_ok-page.page sound table entry c.in_ok-page.ensures (c.into_vec-bytes.ensures ∙ c.in_ok-push_zeros.ensures.added) c.len-head.ensures c.in-Ok.ensures.0 c.in-Ok.ensures.1 in
     record { written = (plan_with m l, sound.plan, image ∙ ap Ok (sym c.from_vec.ensures)) }
 
 pub returns : goal.returns
@@ -47,6 +31,6 @@ returns c =
     let m = c.args.evaluated.now in
     let l = c.args.layout.now in
     let base = c.args.base in
-    let first = base + c.groups_in-groups.result.slots in
+    let first = base + c.groups_in-groups.result.now.slots in
     let table = subst (λ (s : List Target). IsTable c.in_ok-table.table s first) c.slots.ensures c.in_ok-table.ensures in
-    record { written = (plan_with m l, sound.plan, written-err c.groups_in-groups.result m l c.in_ok-table.table base c.in-Err.refusal sound table c.in-Err.ensures) }
+    record { written = (plan_with m l, sound.plan, written-err c.groups_in-groups.result.now m l c.in_ok-table.table base c.in-Err.refusal sound table c.in-Err.ensures) }

@@ -1,11 +1,10 @@
-use Rattle.link_layout.proofs.Sized.{few_leaves, unresolved_is}
+use Rattle.link_layout.proofs.Parts.{unresolved-parts}
 use Rattle.link_layout.proofs.layout_of.check_landings.Goals as goal
 
 pub check_references-requires : goal.check_references-requires
-check_references-requires c = few_leaves _ c.leaves.ensures.evaluated _ c.leaves.ensures.leaves
+check_references-requires c = c.requires.leaves
 
 pub returns : goal.returns
 returns c =
-    rw (unresolved_is _ c.leaves.ensures.evaluated _ c.leaves.ensures.leaves _
-    c.landings.ensures.landings)
+    rw (unresolved-parts c.args.program.now.leaves.now c.args.program.now.landings.now)
     c.check_references.ensures

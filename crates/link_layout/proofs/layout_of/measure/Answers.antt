@@ -1,23 +1,26 @@
 use Rattle.std.proofs.Common.{◌∙◌}
-use Rattle.link_layout.proofs.Sized.{few_leaves, few_slots, sizes_are, slots_are}
+use Rattle.link_layout.specs.Program.{parts_in}
+use Rattle.link_layout.proofs.Groups.{sizes-of_groups}
+use Rattle.link_layout.proofs.Sized.{few_slots, groups_are, slots_are}
 use Rattle.link_layout.proofs.layout_of.measure.Goals as goal
 
 pub ends_of-requires : goal.ends_of-requires
-ends_of-requires c =
-    few_leaves _ c.leaves-leaves.ensures.evaluated _ c.leaves-leaves.ensures.leaves
+ends_of-requires c = c.requires.leaves
 
-pub sizes_of-sizes-requires-clause-few : goal.sizes_of-sizes-requires-clause-few
-sizes_of-sizes-requires-clause-few c =
-    few_slots _ c.leaves-leaves.ensures.evaluated _ c.leaves-leaves.ensures.leaves _
-    c.landings.ensures.landings _ (c.as_slice.ensures ∙ c.in_ok-slots.ensures)
+pub groups_of-groups-requires-clause-few : goal.groups_of-groups-requires-clause-few
+groups_of-groups-requires-clause-few c =
+    few_slots c.args.program.now c.requires _ (c.as_slice.ensures ∙ c.in_ok-slots.ensures)
 
 pub returns-clause-slots : goal.returns-clause-slots
-returns-clause-slots c =
-    slots_are _ c.leaves-leaves.ensures.evaluated _ c.leaves-leaves.ensures.leaves _
-    c.landings.ensures.landings _ c.in_ok-slots.ensures
+returns-clause-slots c = slots_are c.args.program.now c.requires _ c.in_ok-slots.ensures
+
+pub returns-clause-groups : goal.returns-clause-groups
+returns-clause-groups c =
+    groups_are c.args.program.now c.requires _ (c.as_slice.ensures ∙ c.in_ok-slots.ensures)
+    c.ends_of.result c.groups_of-groups.result c.ends_of.ensures.ends c.groups_of-groups.ensures.groups
 
 pub returns-clause-sizes : goal.returns-clause-sizes
 returns-clause-sizes c =
-    sizes_are _ c.leaves-leaves.ensures.evaluated _ c.leaves-leaves.ensures.leaves _
-    c.landings.ensures.landings _ (c.as_slice.ensures ∙ c.in_ok-slots.ensures) c.ends_of.result
-    c.sizes_of-sizes.result c.ends_of.ensures.ends c.sizes_of-sizes.ensures.sizes
+    sizes-of_groups c.groups_of-groups.result (parts_in c.args.program.now)
+    (groups_are c.args.program.now c.requires _ (c.as_slice.ensures ∙ c.in_ok-slots.ensures)
+    c.ends_of.result c.groups_of-groups.result c.ends_of.ensures.ends c.groups_of-groups.ensures.groups)

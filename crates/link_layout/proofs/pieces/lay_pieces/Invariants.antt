@@ -1,7 +1,7 @@
 use Rattle.std.proofs.Common.{◌≡◌, ◌+◌, ◌*◌, ◌≤◌, take, fold}
 use Rattle.omos_model.specs.declared.fragment.Group.{Group}
 use Rattle.link_model.specs.Layout.{end_with}
-use Rattle.link_layout.specs.ByGroup.{bytes_of}
+use Rattle.link_model.specs.Groups.{bytes_of}
 use Rattle.link_layout.proofs.pieces.lay_pieces.Given as goal
 
 abbrev pub invariant-loop-piece : goal.invariant-loop-piece

@@ -3,7 +3,7 @@ use Rattle.omos_model.specs.declared.fragment.Group.{Group}
 use Rattle.omos_model.specs.declared.fragment.Piece.{Piece}
 use Rattle.link_model.specs.Layout.{end_with, places_behind}
 use Rattle.link_model.specs.Program.{Parts}
-use Rattle.link_layout.specs.ByGroup.{bytes_of}
+use Rattle.link_model.specs.Groups.{bytes_of}
 use Rattle.link_layout.specs.Layout.{AreBegins, AreEnds}
 use Rattle.link_layout.proofs.places.place_leaf.Given as goal
 

@@ -1,7 +1,7 @@
 use Rattle.std.proofs.Common.{◌≡◌, ◌*◌, ◌≤◌, [], take}
 use Rattle.omos_model.specs.declared.fragment.Group.{Group}
 use Rattle.link_model.specs.Program.{Parts}
-use Rattle.link_layout.specs.ByGroup.{bytes_of}
+use Rattle.link_model.specs.Groups.{bytes_of}
 use Rattle.link_layout.specs.Layout.{AreBegins, AreEnds, places_over}
 use Rattle.link_layout.specs.Pieces.{all_pieces}
 use Rattle.link_layout.proofs.places.places_of.Given as goal

@@ -1,4 +1,4 @@
-//! A number of bytes for each group.
+//! The groups of an image: a number of bytes for each, and where all of them stand.
 
 use omos_model::Group;
 
@@ -16,7 +16,7 @@ impl ByGroup {
     ghost use Rattle.std.specs.Prelude.{◌≡◌, if◌then◌else◌};
     ghost use Rattle.omos_model.specs.declared.fragment.Group.{Group};
     ghost use Rattle.link_model.specs.Layout.{same_group};
-    ghost use Rattle.link_layout.specs.ByGroup.{bytes_of};
+    ghost use Rattle.link_model.specs.Groups.{bytes_of};
 
     /// Nothing in any group.
     pub const EMPTY: ByGroup = ByGroup {
@@ -50,4 +50,15 @@ impl ByGroup {
             Group::Zeros => self.zeros = bytes,
         }
     }
+}
+
+/// Where the groups of a module stand, counted from its base.
+#[derive(Clone, Copy, Debug)]
+pub struct Groups {
+    /// In bytes.
+    pub sizes: ByGroup,
+    /// Where each begins.
+    pub begins: ByGroup,
+    /// Where the slots begin.
+    pub slots: u64,
 }

@@ -1,0 +1,21 @@
+use Rattle.std.proofs.Common.{ap, ◌∙◌}
+use Rattle.link_model.specs.Module.{Placing}
+use Rattle.link_layout.specs.Program.{parts_in}
+use Rattle.link_layout.proofs.Planned.{at_least_one, is_small, laid}
+use Rattle.link_layout.proofs.layout_of.lay_program.Goals as goal
+
+pub returns : goal.returns
+returns c =
+    let p = c.args.program.now in
+    let pages = c.all_pages-pages.ensures (parts_in p) c.in_ok-slots.ensures.sizes in
+    record {
+      laid = laid p c.of.result
+          (is_small (parts_in p) c.all_pages-pages.result pages c.if-pages-gt-MAX_PAGES.false)
+          c.in_ok-entry.ensures.refusal c.in_ok-check_landings.ensures
+          (ap (λ (l : Placing). l.pages) c.of.ensures ∙ c.max.ensures
+          ∙ at_least_one c.all_pages-pages.result _ pages)
+          (ap (λ (l : Placing). l.groups) c.of.ensures ∙ c.in_ok-slots.ensures.groups)
+          (ap (λ (l : Placing). l.places) c.of.ensures ∙ c.in_ok-places.ensures)
+          (ap (λ (l : Placing). l.slots) c.of.ensures ∙ c.in_ok-slots.ensures.slots)
+          (ap (λ (l : Placing). l.entry) c.of.ensures ∙ c.in_ok-entry.ensures.entry);
+    }
