@@ -187,6 +187,7 @@ bench: build links stores turns versions shares wires
 	@bench/evaluate.sh $(LINK_CASES)
 	@bench/sharing.sh $(LINK_CASES)
 	@bench/text.sh $(LINK_CASES)
+	@bench/largest.sh $(LINK_CASES)
 	@bench/publish.sh $(LINK_CASES) $(VERSION_BENCH)
 	@bench/store.sh $(STORE_CASES)
 	@bench/lock.sh $(TURNS)

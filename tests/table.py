@@ -8,6 +8,21 @@ from pathlib import Path
 
 DATA = Path(__file__).resolve().parent.parent / "crates" / "link_cases" / "data"
 MADE = "# Rows that "
+WIDTH = 100
+
+
+def wrapped(row):
+    """The lines of a row: each goes on, behind two blanks, where the one before ends at a blank. A
+    word that is longer than a line stays whole, and so do two blanks."""
+    lines = [""]
+    for word in row.split(" "):
+        line = f"{lines[-1]} {word}" if lines[-1] else word
+        if len(line) > WIDTH and lines[-1].strip() and word and lines[-1][-1] != " ":
+            line = "    " + word
+            lines.append(line)
+        else:
+            lines[-1] = line
+    return lines
 
 
 def write(script, what, rows):
@@ -17,10 +32,11 @@ def write(script, what, rows):
     that it made before."""
     by_hand, *made = (DATA / "cases.txt").read_text().split("\n" + MADE)
     made = [part for part in made if not part.startswith(script)]
-    made.append(f"{script} wrote: {what}.\n\n" + "\n".join(rows) + "\n")
+    lines = [line for row in rows for line in wrapped(row)]
+    made.append(f"{script} wrote: {what}.\n\n" + "\n".join(lines) + "\n")
     text = ("\n" + MADE).join([by_hand, *sorted(made)])
     (DATA / "cases.txt").write_text(text)
-    lines = [line for line in text.splitlines() if line and line[0] != "#"]
+    lines = [line for line in text.splitlines() if line and line[0] not in "# "]
     names = [line.split("|")[0].strip() for line in lines]
     (DATA.parent / "stdout").write_text("".join(f"ok {name}\n" for name in names))
 

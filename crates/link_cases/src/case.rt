@@ -1,4 +1,4 @@
-//! A line of the table.
+//! A row of the table.
 
 use anyhow::{Context, Result};
 
@@ -18,9 +18,9 @@ fn column(line: &str) -> Result<(&str, &str)> {
 }
 
 impl<'a> Case<'a> {
-    /// The case of a line: four columns between bars.
-    pub(crate) fn read(line: &'a str) -> Result<Case<'a>> {
-        let (name, rest) = column(line)?;
+    /// The case of a row: four columns between bars.
+    pub(crate) fn read(row: &'a str) -> Result<Case<'a>> {
+        let (name, rest) = column(row)?;
         let (published, rest) = column(rest)?;
         let (asked, rest) = column(rest)?;
         Ok(Case {

@@ -12,12 +12,14 @@ mod case;
 mod escape;
 mod link;
 mod publish;
+mod rows;
 mod text;
 mod wanted;
 
 use crate::answer::answer_of;
 use crate::case::Case;
 use crate::publish::version_of;
+use crate::rows::rows_of;
 use crate::wanted::is_wanted;
 use anyhow::{Context, Result};
 use omos_base::Bytes;
@@ -46,11 +48,8 @@ fn run(rt: &HostRuntime, case: &Case) -> Result<()> {
 
 fn main(rt: HostRuntime) -> Result<()> {
     let table = fs::read_to_string(&rt, "cases.txt").context("reading cases.txt")?;
-    for line in table.lines() {
-        if line.is_empty() || line.starts_with('#') {
-            continue;
-        }
-        let case = Case::read(line).context(line)?;
+    for row in &rows_of(rt.alloc(), &table)? {
+        let case = Case::read(row).context(row.as_str())?;
         run(&rt, &case).context(case.name)?;
     }
     Ok(())
