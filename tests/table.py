@@ -11,17 +11,32 @@ MADE = "# Rows that "
 WIDTH = 100
 
 
-def wrapped(row):
-    """The lines of a row: each goes on, behind two blanks, where the one before ends at a blank. A
-    word that is longer than a line stays whole, and so do two blanks."""
-    lines = [""]
+def parts_of(row):
+    """The parts of a row: its name, and what begins with each `|` and `&`."""
+    parts = [[]]
     for word in row.split(" "):
-        line = f"{lines[-1]} {word}" if lines[-1] else word
-        if len(line) > WIDTH and lines[-1].strip() and word and lines[-1][-1] != " ":
-            line = "    " + word
-            lines.append(line)
-        else:
-            lines[-1] = line
+        if word in ("|", "&"):
+            parts.append([])
+        parts[-1].append(word)
+    return [" ".join(words) for words in parts]
+
+
+def wrapped(row):
+    """The lines of a row. Each goes on, behind four blanks, where the one before ends at a blank:
+    before a `|` or `&` where a whole part fits in a line, else between two words. Two blanks that
+    follow one another stay together."""
+    lines = [""]
+    for part in parts_of(row):
+        room = WIDTH if len(part) <= WIDTH - 4 else 0
+        if lines[-1] and len(lines[-1]) + 1 + len(part) > room > 0:
+            lines.append("    " + part)
+            continue
+        for word in part.split(" "):
+            line = f"{lines[-1]} {word}" if lines[-1] else word
+            if len(line) > WIDTH and word and lines[-1][-1:] not in ("", " "):
+                lines.append("    " + word)
+            else:
+                lines[-1] = line
     return lines
 
 
