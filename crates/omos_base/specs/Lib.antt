@@ -4,4 +4,4 @@ pub mod Limits
 pub mod Paths
 pub mod SymNames
 pub use Rattle.byteorder.specs.Endian
-pub mod PackedBytes
+pub mod inside

@@ -17,7 +17,7 @@ pub struct Packed {
 
 impl Model for Packed {
     ghost use Rattle.std.specs.Prelude.{List, ℕ};
-    ghost use Rattle.omos_base.specs.PackedBytes.{packed};
+    ghost use Rattle.omos_base.specs.inside.PackedBytes.{packed};
 
     ghost Value = { List ℕ };
 

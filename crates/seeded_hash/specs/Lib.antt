@@ -1,1 +1,1 @@
-pub mod NameHashes
+pub mod inside

@@ -1,8 +1,8 @@
 //! The hasher that a seed begins.
 
 ghost use Rattle.std.specs.Prelude.{◌≡◌, ◌+◌, ◌-◌, ◌/◌, ◌≤◌, ◌<◌, length};
-ghost use Rattle.seeded_hash.specs.NameHashes.{folded, short_number, mixed, after_blocks};
-ghost use Rattle.seeded_hash.specs.NameHashes.{after_short, after_long, after};
+ghost use Rattle.seeded_hash.specs.inside.NameHashes.{folded, short_number, mixed, after_blocks};
+ghost use Rattle.seeded_hash.specs.inside.NameHashes.{after_short, after_long, after};
 
 use omos_base::{u32_at, u64_at};
 use std::hash::Hasher;
@@ -24,7 +24,7 @@ impl NameHasher {
 }
 
 /// The two halves of a product, joined by xor.
-#[tactic(auto, unfolding(crate::specs::NameHashes::folded))]
+#[tactic(auto, unfolding(crate::specs::inside::NameHashes::folded))]
 fn fold(a: u64, b: u64) -> u64
     ensures { result ≡ folded a b }
 {
@@ -33,7 +33,7 @@ fn fold(a: u64, b: u64) -> u64
 }
 
 /// At most 8 bytes as one number, by reads that may overlap.
-#[tactic(auto, unfolding(crate::specs::NameHashes::short_number))]
+#[tactic(auto, unfolding(crate::specs::inside::NameHashes::short_number))]
 fn short(bytes: &[u8]) -> u64
     ensures { result ≡ short_number bytes.now }
 {
@@ -69,7 +69,7 @@ fn blocks(state: u64, key: u64, bytes: &[u8]) -> u64
 }
 
 /// The state after at most 8 bytes.
-#[tactic(auto, unfolding(crate::specs::NameHashes::after_short))]
+#[tactic(auto, unfolding(crate::specs::inside::NameHashes::after_short))]
 fn fold_short(state: u64, key: u64, bytes: &[u8]) -> u64
     requires { length bytes.now ≤ 8 }
     ensures { result ≡ after_short key bytes.now state }
@@ -78,7 +78,7 @@ fn fold_short(state: u64, key: u64, bytes: &[u8]) -> u64
 }
 
 /// The state after more than 8 bytes.
-#[tactic(auto, unfolding(crate::specs::NameHashes::after_long))]
+#[tactic(auto, unfolding(crate::specs::inside::NameHashes::after_long))]
 fn fold_long(state: u64, key: u64, bytes: &[u8]) -> u64
     requires { 8 < length bytes.now }
     ensures { result ≡ after_long key bytes.now state }
@@ -98,7 +98,7 @@ impl Hasher for NameHasher {
         self.state
     }
 
-    #[tactic(auto, unfolding(crate::specs::NameHashes::after))]
+    #[tactic(auto, unfolding(crate::specs::inside::NameHashes::after))]
     fn write(&mut self, bytes: &[u8]) {
         self.state = if bytes.len() <= 8 {
             fold_short(self.state, self.key, bytes)

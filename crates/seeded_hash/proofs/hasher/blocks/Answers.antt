@@ -1,6 +1,6 @@
 use Rattle.std.proofs.Common.{arith, ◌≡◌, refl, ◌∙◌, ◌+◌, ◌-◌, ◌*◌, ◌/◌, suc, length, ap, sym}
 use Rattle.std.proofs.Common.{add-one}
-use Rattle.seeded_hash.specs.NameHashes.{mixed, after_blocks}
+use Rattle.seeded_hash.specs.inside.NameHashes.{mixed, after_blocks}
 use Rattle.seeded_hash.proofs.hasher.blocks.Goals as goal
 
 -- no block yet

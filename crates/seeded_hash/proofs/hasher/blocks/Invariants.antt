@@ -1,5 +1,5 @@
 use Rattle.std.specs.Prelude.{◌≡◌}
-use Rattle.seeded_hash.specs.NameHashes.{after_blocks}
+use Rattle.seeded_hash.specs.inside.NameHashes.{after_blocks}
 use Rattle.seeded_hash.proofs.hasher.blocks.Given as goal
 
 abbrev pub invariant-loop-block : goal.invariant-loop-block
