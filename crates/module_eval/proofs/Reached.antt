@@ -29,7 +29,8 @@ use Rattle.module_eval.specs.Walked.{tree_in}
 use Rattle.module_eval.specs.declared.memo.Kept.{Kept}
 use Rattle.module_eval.specs.declared.reach.Reach.{Reach}
 use Rattle.module_eval.specs.declared.reach.Tally.{Tally}
-use Rattle.module_eval.proofs.Known.{last_among, not_last, same_tree}
+use Rattle.module_eval.proofs.Known.{same_tree}
+use Rattle.module_eval.proofs.Opened.{last_among, not_last}
 
 -- the path stands last among the open blueprints
 abbrev in_path : List Name → Name → List Name
