@@ -1,5 +1,5 @@
 -- From a walk to what expansion gives, and what it has read.
-use Rattle.std.proofs.Common.{◌≡◌, ◌∙◌, ℕ, ◌+◌, ◌≤◌, Bool, false, Result, Ok, Err, List, refl, sym, ap, subst}
+use Rattle.std.proofs.Common.{◌∙◌, ℕ, ◌+◌, ◌≤◌, Bool, false, Result, Ok, Err, refl, sym, ap, subst}
 use Rattle.std.specs.Prelude.{OnOk}
 use Rattle.omos_base.specs.declared.fault.Fault.{Fault}
 use Rattle.omos_base.specs.declared.fault.Fault.TheVariants.{Refused, NoMemory}
@@ -8,11 +8,9 @@ use Rattle.omos_model.specs.Names.{Name}
 use Rattle.omos_model.specs.Namespace.{Space}
 use Rattle.omos_model.specs.Term.{Term}
 use Rattle.omos_model.specs.declared.refusal.Refusal.{Refusal}
-use Rattle.omos_model.specs.declared.visit.Visit.{Visit}
 use Rattle.module_share.specs.Trails.{Trail, front, trail, visited}
 use Rattle.module_share.proofs.Fronts.{front_law}
 use Rattle.module_eval.specs.Costs.{IsPaid, operators_of, read_of}
-use Rattle.module_eval.specs.Counted.{visit_of}
 use Rattle.module_eval.specs.Walked.{Expands, IsLimit, Walked}
 use Rattle.module_eval.specs.Walks.{ComesBack}
 use Rattle.module_eval.specs.declared.counts.Counts.{Counts}

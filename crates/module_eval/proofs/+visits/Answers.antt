@@ -1,13 +1,12 @@
 use Rattle.std.proofs.Common.{◌≡◌, ◌∙◌, ◌+◌, ◌-◌, ◌<◌, ◌≤◌, ◌++◌, ◌∷◌, [], length, length-append, reverse, true, false, Ok, Err, sym, ap, refl, subst, arith}
 use Rattle.std.proofs.lemmas.Result.{err_from_is_err_and}
-use Rattle.omos_model.specs.Expansion.{add_read, here, site_of, source}
-use Rattle.omos_model.specs.NameLists.{is_among}
+use Rattle.omos_model.specs.Expansion.{here, site_of, source}
 use Rattle.omos_model.specs.Term.{Apply}
 use Rattle.omos_model.specs.Tree.{tree_of}
 use Rattle.omos_model.specs.declared.refusal.Refusal.TheVariants.{NoEntry}
-use Rattle.module_share.specs.Trails.{and_on, begin_on, begin_path_on, nested_on, one_on, visit_on}
+use Rattle.module_share.specs.Trails.{and_on, begin_on, nested_on, one_on, visit_on}
 use Rattle.module_eval.specs.Counted.{visit_of}
-use Rattle.module_eval.specs.Costs.{is_built, operators, owed}
+use Rattle.module_eval.specs.Costs.{operators, owed}
 use Rattle.module_eval.specs.Known.{AreKnown}
 use Rattle.module_eval.specs.Operators.{op_of}
 use Rattle.module_eval.specs.Reaches.{HasRoom, added, tally_of}
@@ -16,7 +15,7 @@ use Rattle.omos_model.specs.declared.visit.Visit.{Visit}
 use Rattle.module_eval.specs.Pendings.{Comes, EndsAt, EndsIn, others_in}
 use Rattle.module_eval.specs.Walked.{Walked, path_in, term_with, tree_in}
 use Rattle.module_eval.proofs.Again.{run_of}
-use Rattle.module_eval.proofs.Charged.{on_ok, on_ok_both, owed_more}
+use Rattle.module_eval.proofs.Charged.{on_ok, owed_more}
 use Rattle.module_eval.proofs.Further.{back_from, back_object, back_on, count_on, max_low, ready_again}
 use Rattle.module_eval.proofs.Joined.{means_any}
 use Rattle.module_eval.proofs.Known.{known_closed, known_popped}

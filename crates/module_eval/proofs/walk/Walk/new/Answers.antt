@@ -1,5 +1,4 @@
-use Rattle.std.proofs.Common.{[], ap, arith, length}
-use Rattle.std.specs.Map.{keys_of}
+use Rattle.std.proofs.Common.{ap, arith, length}
 use Rattle.omos_model.specs.Names.{Name}
 use Rattle.omos_model.specs.declared.visit.Visit.{Visit}
 use Rattle.std.proofs.Common.{List}
