@@ -1,10 +1,7 @@
 -- What the operators of pending nodes and of the blueprints read come to.
 use Rattle.std.proofs.Common.{◌≡◌, ◌∙◌, ℕ, ◌+◌, ◌≤◌, Bool, true, false, cond, List, [], ◌∷◌, ◌++◌, Some, Result, Ok, Err}
-use Rattle.std.proofs.Common.{refl, sym, ap, subst, arith}
+use Rattle.std.proofs.Common.{ap, arith}
 use Rattle.std.specs.Prelude.{OnOk}
-use Rattle.std.specs.Borrow.{Bor}
-use Rattle.std.specs.List.{sum_by}
-use Rattle.std.specs.Map.{keys_of}
 use Rattle.std.proofs.lemmas.List.Sums.{sum_by-append, sum_by-cons}
 use Rattle.omos_model.specs.Expansion.{Blueprint, source}
 use Rattle.omos_model.specs.Names.{Name}

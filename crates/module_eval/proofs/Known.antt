@@ -1,15 +1,9 @@
--- Which blueprints are open, and what became of the others.
-use Rattle.std.proofs.Common.{◌≡◌, ◌∙◌, ℕ, ◌+◌, ◌≤◌, Bool, true, false, ◌||◌, ◌&&◌, cond, List, [], ◌∷◌, ◌++◌, Option, Some, None, Ok, Err}
-use Rattle.std.proofs.Common.{refl, sym, ap, subst, arith, true≢false, length, length-append, take}
-use Rattle.std.specs.Prelude.{MatchOption}
-use Rattle.std.proofs.Math.Seq.{take-append_seam}
-use Rattle.std.specs.Prelude.{is_some}
+-- What is known of the blueprints that were read, as they are opened and closed.
+use Rattle.std.proofs.Common.{◌≡◌, ◌∙◌, ◌+◌, ◌≤◌, Bool, true, false, List, [], ◌∷◌, ◌++◌, Option, Some, None}
+use Rattle.std.proofs.Common.{refl, sym, ap, subst, arith, true≢false}
 use Rattle.std.specs.Borrow.{Bor}
-use Rattle.std.specs.List.{list_any}
-use Rattle.std.specs.Map.{keys_of, lookup}
-use Rattle.std.proofs.lemmas.Bool.{and_from, and_parts, or_left, or_right}
-use Rattle.std.proofs.lemmas.List.Folds.{list_any-append}
-use Rattle.indexmap.specs.IndexMap.{insert_entry}
+use Rattle.std.specs.Map.{keys_of}
+use Rattle.std.proofs.lemmas.Bool.{and_from, and_parts}
 use Rattle.omos_model.specs.Expansion.{Source, Object, Blueprint, source}
 use Rattle.omos_model.specs.FragmentParts.{FragmentParts}
 use Rattle.omos_model.specs.Names.{Name, same_name}
@@ -17,101 +11,14 @@ use Rattle.omos_model.specs.NameLists.{is_among}
 use Rattle.omos_model.specs.Namespace.{Space}
 use Rattle.omos_model.specs.Tree.{Tree}
 use Rattle.omos_model.specs.declared.entry.Stamped.{Stamped}
-use Rattle.omos_model.proofs.Names.{same_name-refl, same_name-true}
+use Rattle.omos_model.proofs.Names.{same_name-true}
 use Rattle.module_share.specs.Places.{AllNamed}
 use Rattle.module_share.proofs.Named.{WasOpened, named_so}
 use Rattle.module_eval.specs.Costs.{IsBuiltAlone, IsRead, IsReadAlone, StayBuilt, StayRead, is_built}
 use Rattle.module_eval.specs.Costs.{operators, read_of}
 use Rattle.module_eval.specs.Known.{AreKnown, is_closed, is_closed_in, is_done}
 use Rattle.module_eval.specs.declared.memo.Kept.{Kept}
-
--- ---- what is kept
-
-pub built_here : (all : List (Name × Kept)) (p : Name) (kept : Kept)
-    → is_built (insert_entry same_name all p kept) p ≡ true
-built_here [] p kept = ap (λ b. is_some (cond b (Some kept) None)) (same_name-refl p p refl)
-built_here (e ∷ es) p kept = go (same_name p e.0) refl (built_here es p kept)
-  where
-    go : (b : Bool) → same_name p e.0 ≡ b → is_built (insert_entry same_name es p kept) p ≡ true
-        → is_built (cond b ((e.0, kept) ∷ es) (e ∷ insert_entry same_name es p kept)) p ≡ true
-    go true is h = ap (λ b. is_some (cond b (Some kept) (lookup (same_name p) es))) is
-    go false is h =
-        ap (λ b. is_some (cond b (Some e.1) (lookup (same_name p) (insert_entry same_name es p kept)))) is ∙ h
-
-pub built_still : (all : List (Name × Kept)) (p : Name) (kept : Kept) (q : Name)
-    → is_built all q ≡ true → is_built (insert_entry same_name all p kept) q ≡ true
-built_still [] p kept q h = absurd (true≢false (sym h))
-built_still (e ∷ es) p kept q h =
-    go (same_name p e.0) (same_name q e.0) refl h (built_still es p kept q)
-  where
-    go : (b c : Bool) → same_name q e.0 ≡ c → is_some (cond c (Some e.1) (lookup (same_name q) es)) ≡ true
-        → (is_built es q ≡ true → is_built (insert_entry same_name es p kept) q ≡ true)
-        → is_built (cond b ((e.0, kept) ∷ es) (e ∷ insert_entry same_name es p kept)) q ≡ true
-    go true true f k i = ap (λ d. is_some (cond d (Some kept) (lookup (same_name q) es))) f
-    go true false f k i = ap (λ d. is_some (cond d (Some kept) (lookup (same_name q) es))) f ∙ k
-    go false true f k i =
-        ap (λ d. is_some (cond d (Some e.1) (lookup (same_name q) (insert_entry same_name es p kept)))) f
-    go false false f k i =
-        ap (λ d. is_some (cond d (Some e.1) (lookup (same_name q) (insert_entry same_name es p kept)))) f ∙ i k
-
--- nothing else is kept
-pub built_only : (all : List (Name × Kept)) (p : Name) (kept : Kept) (q : Name)
-    → same_name q p ≡ false → is_built (insert_entry same_name all p kept) q ≡ true
-    → is_built all q ≡ true
-built_only [] p kept q out h =
-    absurd (true≢false (sym h ∙ ap (λ b. is_some (cond b (Some kept) None)) out))
-built_only (e ∷ es) p kept q out h =
-    go (same_name p e.0) (same_name q e.0) refl refl h (built_only es p kept q out)
-  where
-    go : (b c : Bool) → same_name p e.0 ≡ b → same_name q e.0 ≡ c
-        → is_built (cond b ((e.0, kept) ∷ es) (e ∷ insert_entry same_name es p kept)) q ≡ true
-        → (is_built (insert_entry same_name es p kept) q ≡ true → is_built es q ≡ true)
-        → is_some (cond c (Some e.1) (lookup (same_name q) es)) ≡ true
-    go b true is f k i = refl
-    go true false is f k i =
-        sym (ap (λ d. is_some (cond d (Some kept) (lookup (same_name q) es))) f) ∙ k
-    go false false is f k i =
-        i (sym (ap (λ d. is_some (cond d (Some e.1) (lookup (same_name q) (insert_entry same_name es p kept)))) f) ∙ k)
-
--- ---- what is open
-
-pub last_among : (all above : List Name) (p : Name) → all ≡ above ++ p ∷ [] → is_among all p ≡ true
-last_among all above p is =
-    ap (λ ps. is_among ps p) is
-    ∙ list_any-append (same_name p) above (p ∷ [])
-    ∙ or_right (is_among above p) (list_any (same_name p) (p ∷ [])) (or_left (same_name p p) false (same_name-refl p p refl))
-
-either : (a b : Bool) → (a || (b || false)) ≡ false → (a ≡ false) × (b ≡ false)
-either true b h = absurd (true≢false h)
-either false true h = absurd (true≢false h)
-either false false h = (refl, refl)
-
-neither : (a b : Bool) → a ≡ false → b ≡ false → (a || (b || false)) ≡ false
-neither true b h k = absurd (true≢false h)
-neither false true h k = absurd (true≢false k)
-neither false false h k = refl
-
-pub not_last : (above : List Name) (p q : Name) → is_among above q ≡ false → same_name q p ≡ false
-    → is_among (above ++ p ∷ []) q ≡ false
-not_last above p q out e =
-    list_any-append (same_name q) above (p ∷ []) ∙ neither (is_among above q) (same_name q p) out e
-
--- the last is closed
-pub popped_so : (o : Option Name) (old new above : List Name) (p : Name) → old ≡ above ++ p ∷ []
-    → MatchOption o ((old ≡ []) × (new ≡ [])) (λ last. old ≡ new ++ last ∷ []) → new ≡ above
-popped_so None old new above p is h =
-    let none = ap length (sym h.0 ∙ is) in
-    let many = length-append above (p ∷ []) in
-    absurd (omega (arith, none, many))
-popped_so (Some last) old new above p is h =
-    let whole : new ++ last ∷ [] ≡ above ++ p ∷ [] = sym h ∙ is in
-    let count = ap length whole in
-    let here = length-append new (last ∷ []) in
-    let there = length-append above (p ∷ []) in
-    let same : length new ≡ length above = omega (arith, count, here, there) in
-    sym (take-append_seam new (last ∷ []))
-    ∙ (λ i. take (same i) (whole i))
-    ∙ take-append_seam above (p ∷ [])
+use Rattle.module_eval.proofs.Opened.{beyond, inside, outside}
 
 -- ---- what is done with
 
@@ -147,24 +54,6 @@ other_source f x h = cc
 
 pub same_tree : (x y : Tree) → Some (Blueprint x) ≡ Some (Blueprint y) → x ≡ y
 same_tree x y h = cc
-
-inside : (above more : List Name) (p q : Name) → more ≡ above ++ p ∷ [] → is_among above q ≡ true
-    → is_among more q ≡ true
-inside above more p q is h =
-    ap (λ ps. is_among ps q) is
-    ∙ list_any-append (same_name q) above (p ∷ [])
-    ∙ or_left (is_among above q) (list_any (same_name q) (p ∷ [])) h
-
-outside : (above more : List Name) (p q : Name) → more ≡ above ++ p ∷ []
-    → is_among more q ≡ false → (is_among above q ≡ false) × (same_name q p ≡ false)
-outside above more p q is out =
-    either (is_among above q) (same_name q p)
-    (sym (list_any-append (same_name q) above (p ∷ [])) ∙ sym (ap (λ ps. is_among ps q) is) ∙ out)
-
-beyond : (above more : List Name) (p q : Name) → more ≡ above ++ p ∷ [] → is_among above q ≡ false
-    → same_name q p ≡ false → is_among more q ≡ false
-beyond above more p q is out e =
-    ap (λ ps. is_among ps q) is ∙ not_last above p q out e
 
 -- ---- what is known, as blueprints are opened and closed
 

@@ -1,5 +1,5 @@
 -- From a walk to what expansion gives, and what it has read.
-use Rattle.std.proofs.Common.{◌≡◌, ◌∙◌, ℕ, ◌+◌, ◌≤◌, false, Result, Ok, Err, List, refl, sym, ap, subst}
+use Rattle.std.proofs.Common.{◌∙◌, ℕ, ◌+◌, ◌≤◌, Bool, false, Result, Ok, Err, refl, sym, ap, subst}
 use Rattle.std.specs.Prelude.{OnOk}
 use Rattle.omos_base.specs.declared.fault.Fault.{Fault}
 use Rattle.omos_base.specs.declared.fault.Fault.TheVariants.{Refused, NoMemory}
@@ -8,14 +8,13 @@ use Rattle.omos_model.specs.Names.{Name}
 use Rattle.omos_model.specs.Namespace.{Space}
 use Rattle.omos_model.specs.Term.{Term}
 use Rattle.omos_model.specs.declared.refusal.Refusal.{Refusal}
-use Rattle.omos_model.specs.Visit.{Visit}
 use Rattle.module_share.specs.Trails.{Trail, front, trail, visited}
 use Rattle.module_share.proofs.Fronts.{front_law}
 use Rattle.module_eval.specs.Costs.{IsPaid, operators_of, read_of}
-use Rattle.module_eval.specs.Counted.{visit_of}
 use Rattle.module_eval.specs.Walked.{Expands, IsLimit, Walked}
-use Rattle.module_eval.specs.Known.{Deepens}
+use Rattle.module_eval.specs.Walks.{ComesBack}
 use Rattle.module_eval.specs.declared.counts.Counts.{Counts}
+use Rattle.module_eval.specs.declared.walk.Walk.{Walk}
 use Rattle.module_eval.specs.declared.part.Part.{Part}
 
 pub expanded_so : (ns : Space) (path : Name) (result : Result Part (Fault Refusal)) (new : Counts)
@@ -35,7 +34,7 @@ paid ns path (Err (Refused x)) new old_steps new_steps h few =
 paid ns path (Err NoMemory) new old_steps new_steps h few = tt
 
 -- the limit of all
-pub limit_of : (result : Result Part (Fault Refusal)) (old new : ℕ) → OnOk result (Deepens old new)
-    → IsLimit result new 32
-limit_of (Ok part) old new h = h.low
-limit_of (Err fault) old new h = refl
+pub limit_of : (ns : Space) (counted : Bool) (old new : Walk) (result : Result Part (Fault Refusal))
+    → OnOk result (ComesBack ns counted old new) → IsLimit result new.memo.deepest 32
+limit_of ns counted old new (Ok part) h = h.deepens.low
+limit_of ns counted old new (Err fault) h = refl

@@ -1,12 +1,10 @@
 -- A blueprint that is used once more without a walk.
-use Rattle.std.proofs.Common.{◌≡◌, ◌∙◌, ℕ, ◌+◌, ◌-◌, ◌<◌, ◌≤◌, Bool, true, false, ◌||◌, cond, List, [], ◌∷◌, ◌++◌, Option, Some, None, Ok, Err}
+use Rattle.std.proofs.Common.{◌≡◌, ◌∙◌, ℕ, ◌+◌, ◌-◌, ◌<◌, ◌≤◌, Bool, true, false, List, [], ◌∷◌, ◌++◌, Some, Ok, Err}
 use Rattle.std.proofs.Common.{refl, sym, ap, subst, length, length-append, arith, true≢false}
 use Rattle.std.specs.Borrow.{Bor}
-use Rattle.std.specs.List.{list_any}
 use Rattle.std.specs.Map.{keys_of}
-use Rattle.std.proofs.lemmas.Bool.{and_from, and_parts, or_left, or_right}
-use Rattle.std.proofs.lemmas.List.Folds.{list_any-append}
-use Rattle.omos_model.specs.Expansion.{Blueprint, Source, Visited, expand, source}
+use Rattle.std.proofs.lemmas.Bool.{and_parts}
+use Rattle.omos_model.specs.Expansion.{Blueprint, expand, source}
 use Rattle.omos_model.specs.Names.{Name, same_name}
 use Rattle.omos_model.specs.NameLists.{is_among}
 use Rattle.omos_model.specs.Namespace.{Space}
@@ -15,21 +13,21 @@ use Rattle.omos_model.specs.Tree.{Tree}
 use Rattle.omos_model.specs.declared.entry.Stamped.{Stamped}
 use Rattle.omos_model.specs.Visit.{Visit}
 use Rattle.omos_model.proofs.Names.{same_name-true}
-use Rattle.module_share.specs.Places.{AllNamed, HasRoomFor, IsClosed, IsMoved, tree_at}
+use Rattle.module_share.specs.Places.{AllNamed, IsClosed, IsMoved, tree_at}
 use Rattle.module_share.specs.Trails.{Trail, and_on, front, nested_on}
 use Rattle.module_share.proofs.Elsewhere.{anywhere_law}
 use Rattle.module_share.proofs.Fronts.{front_tree}
 use Rattle.module_share.proofs.Growth.{Grown, Grows, expand_grown, visit_grown}
 use Rattle.module_share.proofs.Named.{WasOpened, named_opened}
 use Rattle.module_eval.specs.Costs.{is_built}
-use Rattle.module_eval.specs.Kept.{IsKept}
 use Rattle.module_eval.specs.Known.{AreKnown, is_closed, is_closed_in, is_done}
-use Rattle.module_eval.specs.Reaches.{Fits, HasRoom, IsReach, added, tally_of, with_added}
+use Rattle.module_eval.specs.Reaches.{Fits, IsReach, added, tally_of, with_added}
 use Rattle.module_eval.specs.Walked.{tree_in}
 use Rattle.module_eval.specs.declared.memo.Kept.{Kept}
 use Rattle.module_eval.specs.declared.reach.Reach.{Reach}
 use Rattle.module_eval.specs.declared.reach.Tally.{Tally}
-use Rattle.module_eval.proofs.Known.{last_among, not_last, same_tree}
+use Rattle.module_eval.proofs.Known.{same_tree}
+use Rattle.module_eval.proofs.Opened.{last_among, not_last}
 
 -- the path stands last among the open blueprints
 abbrev in_path : List Name → Name → List Name

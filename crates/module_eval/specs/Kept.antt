@@ -1,5 +1,5 @@
 -- Tables of blueprints that are kept for further uses.
-use Rattle.std.specs.Prelude.{◌≡◌, ℕ, true, false, List, [], ◌∷◌, None, Some, Result, Ok, Err}
+use Rattle.std.specs.Prelude.{◌≡◌, ℕ, true, false, List, None, Some, Result, Ok, Err}
 use Rattle.std.specs.List.{AllByRecursion}
 use Rattle.omos_model.specs.Expansion.{Blueprint, source}
 use Rattle.omos_model.specs.FirstRefusal.{first_refusal}

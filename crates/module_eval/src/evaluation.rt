@@ -6,19 +6,19 @@ ghost use Rattle.omos_base.specs.Fault.{MatchFault};
 ghost use Rattle.omos_model.specs.Expansion.{expansion, first_visit};
 ghost use Rattle.link_model.specs.Module.{IsModule};
 ghost use Rattle.module_eval.specs.Costs.{IsPaid};
-ghost use Rattle.module_eval.specs.Counted.{AreCounted, visit_of};
+ghost use Rattle.module_eval.specs.Counted.{visit_of};
 ghost use Rattle.module_eval.specs.Evaluations.{IsBuiltOn, IsEvaluatedOn, refusal_of};
 ghost use Rattle.module_eval.specs.Found.{AreFound};
 ghost use Rattle.module_eval.specs.Walked.{Expands};
+ghost use Rattle.module_eval.specs.Walks.{IsReady};
 
-use crate::counts::Counts;
 use crate::footprint::entries_of;
-use crate::memo::Memo;
-use crate::node::Stop;
+use crate::node::WalkFault;
 use crate::part::{Part, built};
+use crate::paths::visit_path;
 use crate::read_path::ReadPath;
 use crate::terms::{self, Terms};
-use crate::walk::visit_path;
+use crate::walk::{Place, Walk};
 use indexmap::IndexMap;
 use link_model::Evaluated;
 use module_land::land;
@@ -27,31 +27,29 @@ use name_tree::Snap;
 use omos_base::{Fault, NoMemory, PathName};
 use omos_model::{Refusal, Stamped};
 use seeded_hash::Seed;
-use sqlite_items::Items;
 use std::alloc::Global;
 use std::sync::ledger::Ledger;
 
 /// Goes to the requested path, which is no node that is counted.
 fn expand<'a, L: Ledger>(
-    alloc: Global,
     snap: &'a Snap,
     path: &'a PathName,
-    memo: &mut Memo<'a>,
-    counts: &mut Counts<'a>,
+    walk: &mut Walk<'a>,
     steps: &mut Steps<L>,
-) -> Result<Part, Stop>
-    requires first { visit_of counts.old ≡ first_visit }
-    requires counted { AreCounted counts.old }
-    requires none { memo.old.kept.entries ≡ [] }
-    requires low { memo.old.deepest ≡ 0 }
-    ensures walk { Expands result (expansion snap.now.entries path.now) counts.new }
-    ensures found { OnOk result (AreFound snap.now.entries counts.new.read.entries) }
+) -> Result<Part, WalkFault>
+    requires ready { IsReady snap.now.entries walk.old }
+    requires first { visit_of walk.old.counts ≡ first_visit }
+    requires closed { walk.old.above ≡ [] }
+    ensures walk { Expands result (expansion snap.now.entries path.now) walk.new.counts }
+    ensures found { OnOk result (AreFound snap.now.entries walk.new.counts.read.entries) }
     ensures cost { IsPaid result steps.old steps.new snap.now.entries path.now }
 {
-    let mut above = Items::new(alloc);
-    visit_path(
-        snap, &mut above, memo, false, false, path, path, counts, steps,
-    )
+    let place = Place {
+        snap,
+        at: path,
+        counting: false,
+    };
+    visit_path(&place, false, path, walk, steps)
 }
 
 /// The module of a table, on the namespace that it was built on.
@@ -95,12 +93,10 @@ pub fn evaluate<L: Ledger>(
         (IsEvaluatedOn snap.now.entries path.now)
         (λ x. refusal_of (expansion snap.now.entries path.now) ≡ Some x) }
 {
-    let seed = snap.seed();
-    let mut memo = Memo::new(alloc, seed);
-    let mut counts = Counts::new(alloc, seed);
-    match expand(alloc, snap, path, &mut memo, &mut counts, steps) {
+    let mut walk = Walk::new(alloc, snap.seed());
+    match expand(snap, path, &mut walk, steps) {
         Ok(part) => match built(alloc, part)? {
-            Some(Ok(table)) => { Ok(finish(alloc, snap, path, table.get(), &counts.read)?) }
+            Some(Ok(table)) => { Ok(finish(alloc, snap, path, table.get(), &walk.counts.read)?) }
             Some(Err(refusal)) => Err(Fault::Refused(refusal.into_inner())),
             None => unreachable!(),
         },

@@ -4,8 +4,10 @@
 //! Nothing here knows how an operator works on a table, and nothing lays out or writes an image.
 #![tactic(auto)]
 
+mod blueprints;
 mod counts;
 mod evaluation;
+mod exprs;
 mod footprint;
 mod leaf;
 mod memo;
@@ -16,6 +18,7 @@ mod operands;
 mod operator;
 mod outermost;
 mod part;
+mod paths;
 mod pending;
 mod reach;
 mod read_path;

@@ -13,7 +13,7 @@ ghost use Rattle.module_eval.specs.Walked.{Walked};
 
 use crate::counts::{Counts, count_leaf, enter};
 use crate::leaf::Leaf;
-use crate::node::Stop;
+use crate::node::WalkFault;
 use crate::part::Part;
 use omos_base::PathName;
 use omos_model::{Entry, Stamped};
@@ -27,7 +27,7 @@ pub fn visit_object<'a>(
     path: &'a PathName,
     found: &'a Stamped,
     counts: &mut Counts<'a>,
-) -> Result<Part, Stop>
+) -> Result<Part, WalkFault>
     requires object { IsObject found.now.entry }
     requires counted { AreCounted counts.old }
     ensures walk { (f : FragmentParts) → found.now.entry ≡ Entry.Object f → Walked counting result

@@ -1,4 +1,3 @@
-use Rattle.std.proofs.Common.{◌∙◌, ap, sym}
 use Rattle.module_eval.proofs.Charged.{on_ok_both}
 use Rattle.module_eval.proofs.Known.{known_again}
 use Rattle.module_eval.proofs.opening.enter_again.Goals as goal

@@ -1,4 +1,3 @@
-use Rattle.std.proofs.Common.{◌∙◌, ap, sym}
 use Rattle.module_eval.proofs.Known.{charged, known_opened}
 use Rattle.module_eval.proofs.opening.open.Goals as goal
 

@@ -1,4 +1,3 @@
-use Rattle.std.proofs.Common.{◌∙◌, ap, refl, sym}
 use Rattle.module_eval.proofs.Known.{known_reopened}
 use Rattle.module_eval.proofs.opening.open_again.Goals as goal
 

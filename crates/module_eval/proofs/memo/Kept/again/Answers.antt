@@ -1,5 +1,4 @@
-use Rattle.std.proofs.Common.{◌≡◌, arith}
-use Rattle.module_share.specs.Shifted.{raised}
+use Rattle.std.proofs.Common.{arith}
 use Rattle.module_eval.proofs.Again.{again_failed, again_means, shift_to}
 use Rattle.module_eval.proofs.memo.Kept.again.Goals as goal
 

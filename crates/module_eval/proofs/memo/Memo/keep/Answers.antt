@@ -1,4 +1,4 @@
-use Rattle.std.proofs.Common.{◌∙◌, false, arith, ap, sym}
+use Rattle.std.proofs.Common.{false, arith}
 use Rattle.module_eval.proofs.Again.{own_means}
 use Rattle.module_eval.proofs.memo.Memo.keep.Goals as goal
 

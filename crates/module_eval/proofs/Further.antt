@@ -1,0 +1,87 @@
+-- A walk that has come back goes on.
+use Rattle.std.proofs.Common.{◌≡◌, ◌∙◌, ◌≤◌, ℕ, Bool, true, List, Some, length, Result, Ok, Err, refl, sym, ap, subst, arith}
+use Rattle.std.specs.Prelude.{OnOk, max}
+use Rattle.omos_model.specs.Names.{Name}
+use Rattle.omos_model.specs.Expansion.{Object, source}
+use Rattle.omos_model.specs.FragmentParts.{FragmentParts}
+use Rattle.omos_model.specs.Namespace.{Space, look_up}
+use Rattle.omos_model.specs.declared.entry.Stamped.{Stamped}
+use Rattle.module_eval.specs.Costs.{IsReadAlone, StayRead, is_built}
+use Rattle.module_eval.specs.Found.{AreFound}
+use Rattle.module_eval.specs.Walks.{ComesBack, CountOn, IsReady}
+use Rattle.module_eval.specs.declared.counts.Counts.{Counts}
+use Rattle.module_eval.specs.declared.memo.Memo.{Memo}
+use Rattle.module_eval.specs.declared.walk.Walk.{Walk}
+use Rattle.module_eval.proofs.Known.{known_object}
+
+pub count_on : (a b d : Counts) → CountOn a b → CountOn b d → CountOn a d
+count_on a b d h k = record { counted = k.counted; least = omega (arith, h.least, k.least) }
+
+-- it went nowhere
+pub back_at_once : (ns : Space) (counted : Bool) (a : Walk) → IsReady ns a → ComesBack ns counted a a
+back_at_once ns counted a h = record {
+  above = refl;
+  found = λ f. f;
+  kept = h.kept;
+  stays = λ q built. built;
+  deepens = record { deeper = omega arith; low = h.low };
+  known = λ e. h.known;
+}
+
+pub back_on : (ns : Space) (counted : Bool) (a b d : Walk) → ComesBack ns true a b
+    → ComesBack ns counted b d → ComesBack ns counted a d
+back_on ns counted a b d h k = record {
+  above = k.above ∙ h.above;
+  found = λ f. k.found (h.found f);
+  kept = k.kept;
+  stays = λ q built. k.stays q (h.stays q built);
+  deepens = record { deeper = omega (arith, h.deepens.deeper, k.deepens.deeper); low = k.deepens.low };
+  known = k.known;
+}
+
+pub ready_again : (ns : Space) (a b : Walk) → IsReady ns a → CountOn a.counts b.counts
+    → ComesBack ns true a b → IsReady ns b
+ready_again ns a b h n k = record {
+  counted = n.counted;
+  room = subst (λ (ps : List Name). length ps ≤ 32) (sym k.above) h.room;
+  low = k.deepens.low;
+  kept = k.kept;
+  known = k.known refl;
+}
+
+-- up to there it only began nodes
+pub back_from : (ns : Space) (counted : Bool) (a b d : Walk) → b.above ≡ a.above → b.memo ≡ a.memo
+    → b.counts.read.entries ≡ a.counts.read.entries → ComesBack ns counted b d
+    → ComesBack ns counted a d
+back_from ns counted a b d above memo read k =
+    let deepest = ap (λ (m : Memo). m.deepest) memo in
+    record {
+      above = k.above ∙ above;
+      found = λ f. k.found (subst (AreFound ns) (sym read) f);
+      kept = k.kept;
+      stays = λ q h. k.stays q (subst (λ (m : Memo). is_built m.kept.entries q ≡ true) (sym memo) h);
+      deepens = record { deeper = omega (arith, deepest, k.deepens.deeper); low = k.deepens.low };
+      known = k.known;
+    }
+
+-- a path was read, at which nothing is opened
+pub back_object : {X E : Type 0} (ns : Space) (counted : Bool) (a : Walk) (new : Counts) (p : Name)
+    (e : Stamped) (f : FragmentParts) (r : Result X E) → IsReady ns a → look_up ns p ≡ Some e
+    → source ns p ≡ Some (Object f)
+    → OnOk r ((ms : Space) → look_up ms p ≡ Some e → AreFound ms a.counts.read.entries → AreFound ms new.read.entries)
+    → OnOk r (IsReadAlone a.counts.read.entries new.read.entries p)
+    → OnOk r (StayRead a.counts.read.entries new.read.entries)
+    → OnOk r (ComesBack ns counted a (record a { counts = new }))
+back_object ns counted a new p e f (Ok x) h there is found alone stay = record {
+  above = refl;
+  found = found ns there;
+  kept = h.kept;
+  stays = λ q built. built;
+  deepens = record { deeper = omega arith; low = h.low };
+  known = λ c.
+      known_object ns a.above a.above a.counts.read.entries new.read.entries a.memo.apart a.memo.kept.entries p f is alone stay h.known;
+}
+back_object ns counted a new p e f (Err x) h there is found alone stay = tt
+
+pub max_low : (a b : ℕ) → a ≤ 32 → b ≤ 32 → max a b ≤ 32
+max_low a b h k = omega (arith, h, k)

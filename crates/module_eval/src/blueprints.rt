@@ -1,0 +1,167 @@
+//! The walk into a blueprint that may be opened.
+//!
+//! A blueprint that is named again is only counted, so that the refusal is found that its expansion
+//! may come to; what became of it is kept (memo.rt).
+
+ghost use Rattle.std.specs.Prelude.{◌≡◌, ℕ, ◌+◌, ◌≤◌, true, false, OnOk, Some};
+ghost use Rattle.omos_model.specs.Expansion.{Blueprint, source};
+ghost use Rattle.omos_model.specs.Namespace.{look_up};
+ghost use Rattle.omos_model.specs.Tree.{tree_of};
+ghost use Rattle.module_share.specs.Trails.{nested_on};
+ghost use Rattle.module_eval.specs.Costs.{is_built, operators};
+ghost use Rattle.module_eval.specs.Counted.{visit_of};
+ghost use Rattle.module_eval.specs.Kept.{IsKept};
+ghost use Rattle.module_eval.specs.Walked.{IsFree, IsLimit, Walked, path_in, tree_in};
+ghost use Rattle.module_eval.specs.Walks.{Charges, ComesBack, CountOn, IsCharged, IsReady, space_of};
+
+use crate::exprs::visit_expr;
+use crate::memo::Kept;
+use crate::node::WalkFault;
+use crate::opening::{enter_again, open, open_again};
+use crate::part::Part;
+use crate::reach::{Reach, Tally, deeper, height};
+use crate::walk::{Place, Walk};
+use module_table::Steps;
+use omos_base::PathName;
+use omos_model::{Image, Stamped};
+use std::sync::ledger::Ledger;
+
+/// Goes through the expression of a blueprint for the first time, and keeps what became of it, but
+/// for the requested one.
+#[cycle(visits)]
+pub fn visit_first<'a, L: Ledger>(
+    place: &Place<'a>,
+    counted: bool,
+    path: &'a PathName,
+    found: &'a Stamped,
+    image: &'a Image,
+    walk: &mut Walk<'a>,
+    steps: &mut Steps<L>,
+) -> Result<Part, WalkFault>
+    requires ready { IsReady (space_of place.now) walk.old }
+    requires entry { look_up (space_of place.now) path.now ≡ Some found.now }
+    requires there { source (space_of place.now) path.now
+        ≡ Some (Blueprint (tree_of image.now.body)) }
+    requires free { IsFree walk.old.above path.now }
+    requires fresh { is_built walk.old.memo.kept.entries path.now ≡ false }
+    ensures walk { (limit : ℕ) → IsLimit result walk.new.memo.deepest limit
+        → Walked place.now.counting result (path_in (space_of place.now) limit walk.old.above
+        counted place.now.at.now path.now (visit_of walk.old.counts)) walk.new.counts }
+    ensures counts { CountOn walk.old.counts walk.new.counts }
+    ensures back { OnOk result (ComesBack (space_of place.now) counted walk.old walk.new) }
+    ensures more { counted ≡ true
+        → OnOk result (walk.old.counts.nodes + 1 ≤ walk.new.counts.nodes) }
+    ensures cost { IsCharged (space_of place.now) 0 0 walk.old.counts walk.new.counts
+        steps.old steps.new }
+{
+    let depth = walk.above.len();
+    let outer = walk.memo.deepest;
+    walk.memo.deepest = depth + 1;
+    open(
+        &mut walk.above,
+        counted,
+        place.at,
+        path,
+        found,
+        &mut walk.counts,
+    )?;
+    let first = walk.counts.leaves;
+    let before = Tally::of(&walk.counts);
+    let inside = Place {
+        snap: place.snap,
+        at: path,
+        counting: false,
+    };
+    let part = visit_nested(&inside, image, walk, steps)?;
+    walk.above.pop();
+    let height = height(depth, walk.memo.deepest);
+    walk.memo.deepest = deeper(outer, walk.memo.deepest);
+    if !counted {
+        return Ok(part);
+    }
+    let reach = Reach::of(height, before, &walk.counts);
+    Ok(
+        walk.memo
+            .keep(walk.counts.alloc(), path, first, reach, part)?,
+    )
+}
+
+/// Uses a blueprint once more. Where it fits, its counts are added and nothing is walked; where a
+/// limit would be passed, its expression is gone through again, counting, so that the refusal is
+/// found.
+#[cycle(visits)]
+pub fn visit_again<'a, L: Ledger>(
+    place: &Place<'a>,
+    counted: bool,
+    path: &'a PathName,
+    found: &'a Stamped,
+    image: &'a Image,
+    kept: Kept,
+    walk: &mut Walk<'a>,
+    steps: &mut Steps<L>,
+) -> Result<Part, WalkFault>
+    requires ready { IsReady (space_of place.now) walk.old }
+    requires entry { look_up (space_of place.now) path.now ≡ Some found.now }
+    requires there { source (space_of place.now) path.now
+        ≡ Some (Blueprint (tree_of image.now.body)) }
+    requires free { IsFree walk.old.above path.now }
+    requires built { is_built walk.old.memo.kept.entries path.now ≡ true }
+    requires own { IsKept (space_of place.now) path.now kept }
+    ensures walk { (limit : ℕ) → IsLimit result walk.new.memo.deepest limit
+        → Walked place.now.counting result (path_in (space_of place.now) limit walk.old.above
+        counted place.now.at.now path.now (visit_of walk.old.counts)) walk.new.counts }
+    ensures counts { CountOn walk.old.counts walk.new.counts }
+    ensures back { OnOk result (ComesBack (space_of place.now) counted walk.old walk.new) }
+    ensures more { counted ≡ true
+        → OnOk result (walk.old.counts.nodes + 1 ≤ walk.new.counts.nodes) }
+    ensures cost { IsCharged (space_of place.now) 0 0 walk.old.counts walk.new.counts
+        steps.old steps.new }
+{
+    enter_again(counted, place.at, path, found, &mut walk.counts)?;
+    let depth = walk.above.len();
+    if walk.memo.apart && kept.reach.has_room(depth, &walk.counts) {
+        walk.memo.deepest = deeper(walk.memo.deepest, kept.reach.height as usize + depth);
+        return Ok(kept.use_again(&mut walk.counts)?);
+    }
+    let first = walk.counts.leaves;
+    walk.memo.apart = false;
+    walk.memo.deepest = deeper(walk.memo.deepest, depth + 1);
+    open_again(&mut walk.above, path)?;
+    let inside = Place {
+        snap: place.snap,
+        at: path,
+        counting: true,
+    };
+    visit_nested(&inside, image, walk, steps)?;
+    walk.above.pop();
+    if place.counting {
+        return Ok(Part::Counted);
+    }
+    Ok(kept.again(walk.counts.alloc(), first)?)
+}
+
+/// Goes through the expression of an open blueprint, whose nodes have numbers of their own.
+#[cycle(visits)]
+fn visit_nested<'a, L: Ledger>(
+    place: &Place<'a>,
+    image: &'a Image,
+    walk: &mut Walk<'a>,
+    steps: &mut Steps<L>,
+) -> Result<Part, WalkFault>
+    requires ready { IsReady (space_of place.now) walk.old }
+    ensures walk { (limit : ℕ) → IsLimit result walk.new.memo.deepest limit
+        → Walked place.now.counting result (nested_on (tree_in (space_of place.now) limit
+        walk.old.above place.now.at.now (tree_of image.now.body)) (visit_of walk.old.counts))
+        walk.new.counts }
+    ensures counts { CountOn walk.old.counts walk.new.counts }
+    ensures back { OnOk result (ComesBack (space_of place.now) true walk.old walk.new) }
+    ensures cost { Charges (space_of place.now) place.now.counting
+        (operators (tree_of image.now.body)) 0 walk.old.counts walk.new.counts
+        steps.old steps.new }
+{
+    let node = walk.counts.node;
+    walk.counts.node = 0;
+    let part = visit_expr(place, image.body(), walk, steps)?;
+    walk.counts.node = node;
+    Ok(part)
+}
