@@ -130,11 +130,22 @@ def alone(what, step, status, room, words, fails, totals, name, frames):
 
 def own(what, status, room, sessions, fails):
     """One worker and one session, which publishes and sees that."""
-    frames = [(put("/o/a", V1), published(1)), (STATS, counts(1, 1, 0, 0, 0, 0, 0, 0, 1))]
     totals = "sessions 1 requests 2 version 1 placements 0 hits 0 stored 0 evicted 0"
     words = f"socket s 1 {sessions} 4 64"
-    return alone(what, 4096, status, room, words, fails, totals, "own", frames)
+    return alone(what, 4096, status, room, words, fails, totals, "own", OWN)
 
+
+def turns(what, words, name, frames):
+    """One session, of which each read and then each write fails: where a request is read whole its
+    reply comes, and no more."""
+    ends, read, sent = [], 0, 0
+    for request, reply in frames:
+        read, sent = read + len(request), sent + len(reply)
+        ends.append(f"{read}:{sent}")
+    return "\n".join([what, f"turns {words}", f"{name} {' '.join(ends)}"]), {name: frames}
+
+
+OWN = [(put("/o/a", V1), published(1)), (STATS, counts(1, 1, 0, 0, 0, 0, 0, 0, 1))]
 
 CASES = [
     held(
@@ -224,11 +235,14 @@ CASES = [
     own("a door that fails at its second call", 9, 300, 2, 2),
     own("a door that hands over fewer", 0, 300, 3, 0),
     own("a sink that takes ten bytes of the totals", 4, 10, 1, 0),
+    turns("each read, and each write, fails in turn", "socket s 1 1 4 64", "own", OWN),
 ]
 
 HEAD = """# Written by tests/shared.py. A case: its name; the words; the status, how many bytes of
 # the totals are taken, and their line; then for each worker `worker FLAG FAILS REACHED UNTIL`
-# and a row `NAME STEP` or `NAME STEP FLAG AT` for each session (src/worker.rt).
+# and a row `NAME STEP` or `NAME STEP FLAG AT` for each session (src/worker.rt). Or its name;
+# `turns` and the words; and the name of a session with `REQUEST:REPLY ..`, where each request
+# and its reply end: each read of it fails in turn, and then each write (src/turns.rt).
 """
 
 
@@ -241,8 +255,10 @@ def main():
         for name, frames in sessions.items():
             (data / f"{name}.in").write_bytes(b"".join(request for request, _ in frames))
             (data / f"{name}.out").write_bytes(b"".join(reply for _, reply in frames))
-            lines.append(f"ok {what}: {name}\n")
-        lines += [f"ok {what}: status\n", f"ok {what}: totals\n"]
+            if "\nturns " not in text:
+                lines.append(f"ok {what}: {name}\n")
+        last = ("reads", "writes") if "\nturns " in text else ("status", "totals")
+        lines += [f"ok {what}: {word}\n" for word in last]
     table = "\n\n".join([HEAD.rstrip(), *(text for text, _ in CASES)])
     (data / "cases.txt").write_text(table + "\n")
     (CRATE / "stdout").write_text("".join(lines))

@@ -48,7 +48,7 @@ impl<'a> Case<'a> {
 }
 
 /// The words as owned strings.
-fn words_of(alloc: Global, text: &str) -> Result<Vec<String>> {
+pub(crate) fn words_of(alloc: Global, text: &str) -> Result<Vec<String>> {
     let mut words = Vec::new(alloc);
     for word in text.split(' ') {
         words.push(String::from_str(alloc, word)?)?;
@@ -74,10 +74,10 @@ fn slots_of<R: Files + Alloc<A = Global>>(
     Ok(slots)
 }
 
-/// Prints whether something is as it is wanted.
-fn report<R: Print>(rt: &R, case: &Case<'_>, what: &str, holds: bool) -> Result<()> {
+/// Prints whether something of a case is as it is wanted.
+pub(crate) fn report<R: Print>(rt: &R, case: &str, what: &str, holds: bool) -> Result<()> {
     let word = if holds { "ok" } else { "WRONG" };
-    println!(rt; "{word} {}: {what}", case.name)?;
+    println!(rt; "{word} {case}: {what}")?;
     Ok(())
 }
 
@@ -97,10 +97,10 @@ fn compare_worker<R: Files + Alloc<A = Global> + Print>(
         let sent = sinks
             .get(place)
             .is_some_and(|sink| sink.bytes() == wanted.as_slice());
-        report(rt, case, name, sent)?;
+        report(rt, case.name, name, sent)?;
     }
     if slot.gate().gave_up() {
-        report(rt, case, "a gate waited in vain", false)?;
+        report(rt, case.name, "a gate waited in vain", false)?;
     }
     Ok(())
 }
@@ -121,6 +121,6 @@ pub(crate) fn run_case<R: Threads + Wait + Sync + Files + Alloc<A = Global> + Pr
     }
     let line = format!(in alloc; "{}\n", case.totals)?;
     let wanted = line.as_bytes().iter().take(case.room as usize);
-    report(rt, case, "status", status == case.status)?;
-    report(rt, case, "totals", sink.bytes().iter().eq(wanted))
+    report(rt, case.name, "status", status == case.status)?;
+    report(rt, case.name, "totals", sink.bytes().iter().eq(wanted))
 }

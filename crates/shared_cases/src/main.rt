@@ -7,17 +7,23 @@
 
 mod case;
 mod flags;
+mod turns;
 mod worker;
 
 use crate::case::{Case, run_case};
+use crate::turns::{Turns, run_turns};
 use anyhow::{Context, Result};
 use std::fs;
 
 fn main(rt: HostRuntime) -> Result<()> {
     let table = fs::read_to_string(&rt, "cases.txt").context("reading cases.txt")?;
     for text in table.trim().split("\n\n") {
-        if !text.starts_with('#') {
-            run_case(&rt, rt.alloc(), &Case::of(text)?)?;
+        if text.starts_with('#') {
+            continue;
+        }
+        match Turns::of(text)? {
+            Some(case) => run_turns(&rt, rt.alloc(), &case)?,
+            None => run_case(&rt, rt.alloc(), &Case::of(text)?)?,
         }
     }
     Ok(())

@@ -14,7 +14,7 @@ use std::fs;
 use std::rt::Files;
 
 /// How many bytes a session may be sent.
-const ROOM: u32 = 6_000_000;
+pub(crate) const ROOM: u32 = 6_000_000;
 
 /// A slot in memory.
 pub(crate) type MemorySlot = Slot<MemoryDoor, HoldGate>;
