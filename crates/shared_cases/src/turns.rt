@@ -103,11 +103,12 @@ fn is_sent<R: Threads + Wait + Sync>(
     let mut slots = slots_of(alloc, frames, fails.0, fails.1)?;
     let mut sink = MemorySink::new(alloc, 4096, 4096, Row::new(alloc))?;
     let status = omosd_socket(rt, alloc, Seed::known(0), words, &mut slots, &mut sink);
-    let sent = slots.iter().all(|slot| slot
-        .door()
-        .sinks()
-        .iter()
-        .all(|sink| sink.bytes() == wanted));
+    let sent = slots.iter().all(|slot| {
+        slot.door()
+            .sinks()
+            .first()
+            .is_some_and(|sink| sink.bytes() == wanted)
+    });
     Ok(status == 0 && sent)
 }
 
