@@ -1,14 +1,14 @@
 #!/usr/bin/env python3
-"""Finds words with two meanings: names that the definitions of two crates make public.
+"""Finds words with two meanings: names that the definitions of two crates both make public.
 
     tests/words.py
 
 The definitions stand in crates/*/specs/. Whoever reads a contract takes a word for what it means in
-the definitions that he has read before, so a spelling is to have one meaning: a crate that wants
-another crate's word imports it. Names are compared without regard to case. Names of fields,
-which are read behind what has them, don't count.
+the definitions that he has read before, so one spelling is to have one meaning in the whole house: a
+crate that means the same as another imports its word, and one that means something else says so by
+another name. Names of fields, which are read behind what has them, don't count.
 
-Ends with 'N passed, M failed', where a word that is defined once passes.
+Ends with 'N passed, M failed': a word of one crate passes, and one of several fails.
 """
 
 import re
@@ -17,30 +17,27 @@ from collections import defaultdict
 from pathlib import Path
 
 TOP = Path(__file__).resolve().parent.parent
-
-WORD = re.compile(r"\s*(?:abbrev pub|pub (?:data|record|class)|abbrev pub data) (\S+)", re.M)
+WORD = re.compile(r"^ *(?:(?:abbrev|unfoldable) pub|pub (?:abbrev|data|record|class)) (\S+)", re.M)
 
 
 def words():
-    """The crates and files that define each public word."""
+    """Each public word, with the files that define it."""
     found = defaultdict(list)
     for path in sorted((TOP / "crates").glob("*/specs/**/*.antt")):
-        where = path.relative_to(TOP / "crates")
-        for word in sorted(set(WORD.findall(path.read_text()))):
-            found[word].append(where)
+        for word in set(WORD.findall(path.read_text(encoding="utf-8"))):
+            found[word].append(path.relative_to(TOP / "crates"))
     return found
 
 
 def main():
-    passed = failed = 0
-    for word, places in sorted(words().items()):
-        if len({where.parts[0] for where in places}) == 1:
-            passed += 1
-        else:
-            failed += 1
-            print(f"FAILED: {word} stands in", ", ".join(str(where) for where in places))
-    print(f"{passed} passed, {failed} failed")
-    return failed > 0
+    found = words()
+    twice = {
+        word: places for word, places in found.items() if len({p.parts[0] for p in places}) > 1
+    }
+    for word, places in sorted(twice.items()):
+        print(f"FAILED: {word} stands in {', '.join(str(place) for place in places)}")
+    print(f"{len(found) - len(twice)} passed, {len(twice)} failed")
+    return 1 if twice else 0
 
 
 if __name__ == "__main__":

@@ -9,7 +9,7 @@ use Rattle.omos_model.specs.declared.expr.Expr.TheVariants as expr
 use Rattle.bp_tree.specs.Tokens.{Token, Open, Close, Word, Placed}
 use Rattle.bp_tree.specs.Texts.{words_of}
 use Rattle.bp_tree.specs.Grammar.{IsExpr, AreExprs, IsOpened, Merges, Overrides, Applies, op_words, applied}
-use Rattle.bp_tree.specs.Symbols.{It, AnExpr, Exprs, AreRead, AreOperands, IsOperator, arguments, operator_keyword, kind_nesting, op_of}
+use Rattle.bp_tree.specs.Symbols.{It, AnExpr, Exprs, AreRead, AreOperands, IsOperator, arguments, operator_keyword, kind_nesting, op_meant}
 use Rattle.bp_tree.specs.declared.form.Applied.{Applied}
 use Rattle.bp_tree.specs.declared.operator.Operator.{Operator}
 use Rattle.bp_tree.proofs.Expressions.{expr_nil}
@@ -32,16 +32,16 @@ closed room x ts a b r q =
 pub applied_done : (room : ℕ) (k : Applied) (op : Operator) (x e : Expr) (ts a b end : List Placed)
     → kind_nesting k ≤ room → AreRead (arguments k) (IsOperator k op) ts a
     → AreRead (AnExpr room ∷ []) (Said room x) a b → AreRead (It Close ∷ []) (λ ws. ws ≡ Close ∷ []) b end
-    → e ≡ applied (op_of op) x
+    → e ≡ applied (op_meant op) x
     → AreRead (arguments k ++ AnExpr room ∷ It Close ∷ [])
     (λ ws. IsOpened room (IsExpr room) (Open ∷ Word (operator_keyword k) ∷ ws) e) ts end
 applied_done room k op x e ts a b end fits r q s is =
     then_read (arguments k) (AnExpr room ∷ It Close ∷ []) (IsOperator k op) (Closed room x)
     (λ ws. IsOpened room (IsExpr room) (Open ∷ Word (operator_keyword k) ∷ ws) e) ts a end r (closed room x a b end q s)
     (λ xs ys v w.
-    let all : Word (operator_keyword k) ∷ (xs ++ ys) ≡ op_words (op_of op) ++ (w.0 ++ Close ∷ []) =
+    let all : Word (operator_keyword k) ∷ (xs ++ ys) ≡ op_words (op_meant op) ++ (w.0 ++ Close ∷ []) =
     ap (λ us. Word (operator_keyword k) ∷ (xs ++ us)) w.1 ∙ ap (λ us. us ++ (w.0 ++ Close ∷ [])) v.0 in
-    Applies (op_of op) w.0 x (ap (λ us. Open ∷ us) all) is v.1 (omega (arith, v.2)) w.2)
+    Applies (op_meant op) w.0 x (ap (λ us. Open ∷ us) all) is v.1 (omega (arith, v.2)) w.2)
 
 pub overridden_done : (room : ℕ) (x y x' y' : Expr) (ts a b end : List Placed)
     → AreRead (AnExpr room ∷ []) (Said room x) ts a → AreRead (AnExpr room ∷ []) (Said room y) a b

@@ -10,7 +10,7 @@ use Rattle.bp_tree.specs.Texts.{words_of}
 use Rattle.bp_tree.specs.TextFaults.{Language, Begins}
 use Rattle.bp_tree.specs.Grammar.{IsExpr, IsOpened, IsStart, IsRange}
 use Rattle.bp_tree.specs.Symbols.{Sym, It, AName, AStart, ARange, Low, AreSyms, keyword, Completable, Fails, AreRead, WhyStops}
-use Rattle.bp_tree.specs.Header.{IsOpening, IsPart, body_syms, range_syms, AreBounds}
+use Rattle.bp_tree.specs.Header.{IsOpening, IsHeaderPart, body_syms, range_syms, AreBounds}
 use Rattle.bp_tree.specs.declared.form.Form.{Form}
 use Rattle.bp_tree.specs.declared.form.Form.TheVariants as form
 use Rattle.bp_tree.specs.declared.form.Applied.TheVariants as kind
@@ -150,7 +150,7 @@ range_differs more ws h =
     ]
 
 pub range_absent : (ts : List Placed) → ((after : List Placed) → IsOpening ts (codes "range") after → ⊥)
-    → IsPart ARange body_syms (λ ws. IsRange ws 4194304 1073741824) ts ts
+    → IsHeaderPart ARange body_syms (λ ws. IsRange ws 4194304 1073741824) ts ts
 range_absent ts none = record {
   front = [];
   parts = refl;
@@ -200,7 +200,7 @@ opening_words ts after end front k o e = (
 
 pub range_read : (ts after end : List Placed) (lo hi : ℕ) → IsOpening ts (codes "range") after
     → AreRead (Low ∷ []) (AreBounds lo hi) after end
-    → IsPart ARange body_syms (λ ws. IsRange ws lo hi) ts end
+    → IsHeaderPart ARange body_syms (λ ws. IsRange ws lo hi) ts end
 range_read ts after end lo hi o r =
     let w = opening_words ts after end r.front (codes "range") o r.parts in
     let v = r.value in
@@ -235,7 +235,7 @@ start_differs more ws h = start_split more ws h.0 h.1 h.3.0 h.2 h.3.1 h.4
 
 pub start_absent : (ts : List Placed) (name : List ℕ) → name ≡ codes "_start"
     → ((k : List ℕ) (after : List Placed) → IsOpening ts k after → IsStartKey k → ⊥)
-    → IsPart AStart range_syms (λ ws. IsStart ws (Named name)) ts ts
+    → IsHeaderPart AStart range_syms (λ ws. IsStart ws (Named name)) ts ts
 start_absent ts name is none = record {
   front = [];
   parts = refl;
@@ -280,7 +280,7 @@ entry_fails ts after stop o f =
 
 pub entry_read : (ts after end : List Placed) (name : List ℕ) → IsOpening ts (codes "entry") after
     → AreRead (AName ∷ It Close ∷ []) (λ ws. (ws ≡ Word name ∷ Close ∷ []) × IsSymName name) after end
-    → IsPart AStart range_syms (λ ws. IsStart ws (Named name)) ts end
+    → IsHeaderPart AStart range_syms (λ ws. IsStart ws (Named name)) ts end
 entry_read ts after end name o r =
     let w = opening_words ts after end r.front (codes "entry") o r.parts in
     record {
@@ -322,7 +322,7 @@ none_fails ts after stop o f =
 
 pub none_read : (ts after end : List Placed) → IsOpening ts (codes "no_entry") after
     → AreRead (It Close ∷ []) (λ ws. ws ≡ Close ∷ []) after end
-    → IsPart AStart range_syms (λ ws. IsStart ws NoEntry) ts end
+    → IsHeaderPart AStart range_syms (λ ws. IsStart ws NoEntry) ts end
 none_read ts after end o r =
     let w = opening_words ts after end r.front (codes "no_entry") o r.parts in
     record {

@@ -10,10 +10,10 @@ use Rattle.omos_model.specs.declared.refusal.BpFault.{BpFault}
 use Rattle.omos_model.specs.declared.refusal.BpFault.TheVariants.{Long, Byte, Shape, Deep, Number, Range}
 use Rattle.bp_tree.specs.Tokens.{Token, Open, Close, Word, Barred, Placed, tokens_of}
 use Rattle.bp_tree.specs.Texts.{words_of}
-use Rattle.bp_tree.specs.TextFaults.{Begins, images, IsAllowed, IsBarredAt, HasTokenFault, IsTextFault}
+use Rattle.bp_tree.specs.TextFaults.{Begins, images, StandsInTexts, IsBarredAt, HasTokenFault, IsTextFault}
 use Rattle.bp_tree.specs.Grammar.{IsExpr, IsImageOf, IsStart, IsRange}
 use Rattle.bp_tree.specs.Symbols.{It, AnExpr, AStart, ARange, AreSyms, Completable, Fails, AreRead, WhyStops}
-use Rattle.bp_tree.specs.Header.{IsPart, HasHead, body_syms, range_syms, image_syms}
+use Rattle.bp_tree.specs.Header.{IsHeaderPart, HasHead, body_syms, range_syms, image_syms}
 use Rattle.bp_tree.specs.declared.stop.Stop.{Stop}
 use Rattle.bp_tree.specs.declared.stop.Stop.TheVariants.{At}
 use Rattle.bp_tree.proofs.Headers.{range_open, no_start}
@@ -112,7 +112,7 @@ start_stops ts a b stop o n h =
     o.leads (It (Word (codes "image")) ∷ AStart ∷ range_syms) stop (n.leads (AStart ∷ range_syms) stop h)
 
 pub head_done : (s : Start) (lo hi : ℕ) (ts a b c d : List Placed) → Opened ts a → Named a b
-    → IsPart AStart range_syms (λ ws. IsStart ws s) b c → IsPart ARange body_syms (λ ws. IsRange ws lo hi) c d
+    → IsHeaderPart AStart range_syms (λ ws. IsStart ws s) b c → IsHeaderPart ARange body_syms (λ ws. IsRange ws lo hi) c d
     → HasHead s lo hi ts d
 head_done s lo hi ts a b c d o n p q =
     let front = o.front ++ (n.front ++ (p.front ++ q.front)) in
@@ -132,7 +132,7 @@ head_done s lo hi ts a b c d o n p q =
     }
 
 pub range_stops : (s : Start) (ts a b c : List Placed) (stop : Stop) → Opened ts a → Named a b
-    → IsPart AStart range_syms (λ ws. IsStart ws s) b c → WhyStops (AreSyms range_syms) c stop → WhyStops (AreSyms image_syms) ts stop
+    → IsHeaderPart AStart range_syms (λ ws. IsStart ws s) b c → WhyStops (AreSyms range_syms) c stop → WhyStops (AreSyms image_syms) ts stop
 range_stops s ts a b c stop o n p h = start_stops ts a b stop o n (p.leads stop h)
 
 -- ---- the body and the end
@@ -198,7 +198,7 @@ lawful s lo hi x ts a b h r =
 
 -- ---- texts
 
-pub token_fault : (text : List ℕ) (fault : BpFault) → length text ≤ 65536 → All IsAllowed (tokens_of text)
+pub token_fault : (text : List ℕ) (fault : BpFault) → length text ≤ 65536 → All StandsInTexts (tokens_of text)
     → HasTokenFault images (tokens_of text) (length text) fault → IsTextFault text fault
 token_fault text Long short allowed (inl s) = absurd s.why
 token_fault text Long short allowed (inr s) = let q : Long ≡ Shape (length text) = s.0 in absurd cc
@@ -212,18 +212,18 @@ token_fault text (Range p) short allowed h = (short, allowed, h)
 -- ---- bytes that may not stand in a text
 
 abbrev pub Passed : List Placed → List Placed → Type 0
-Passed ts rest = (front : List Placed) × (ts ≡ front ++ rest) × All IsAllowed front
+Passed ts rest = (front : List Placed) × (ts ≡ front ++ rest) × All StandsInTexts front
 
-pub passed_one : (ts rest after : List Placed) (t : Placed) → Passed ts rest → rest ≡ t ∷ after → IsAllowed t → Passed ts after
+pub passed_one : (ts rest after : List Placed) (t : Placed) → Passed ts rest → rest ≡ t ∷ after → StandsInTexts t → Passed ts after
 passed_one ts rest after t p e is = (
   p.0 ++ t ∷ [],
   p.1 ∙ ap (λ us. p.0 ++ us) e ∙ sym (append_assoc p.0 (t ∷ []) after),
-  All-append IsAllowed p.0 (t ∷ []) p.2 (All-cons IsAllowed t [] is (All-nil IsAllowed)),
+  All-append StandsInTexts p.0 (t ∷ []) p.2 (All-cons StandsInTexts t [] is (All-nil StandsInTexts)),
 )
 
-pub passed_all : (ts rest : List Placed) → Passed ts rest → rest ≡ [] → All IsAllowed ts
+pub passed_all : (ts rest : List Placed) → Passed ts rest → rest ≡ [] → All StandsInTexts ts
 passed_all ts rest p e =
-    subst (All IsAllowed) (sym (p.1 ∙ ap (λ us. p.0 ++ us) e ∙ append-nil p.0)) p.2
+    subst (All StandsInTexts) (sym (p.1 ∙ ap (λ us. p.0 ++ us) e ∙ append-nil p.0)) p.2
 
 pub barred_here : (ts rest after : List Placed) (byte place : ℕ) → Passed ts rest
     → rest ≡ record { token = Barred byte; place = place } ∷ after → IsBarredAt ts place

@@ -7,8 +7,8 @@ use Rattle.omos_model.specs.declared.refusal.BpFault.TheVariants.{Range}
 use Rattle.std.proofs.lemmas.List.Elements.{All-head, All-tail}
 use Rattle.bp_tree.specs.Tokens.{Token, Open, Word, Barred, Placed}
 use Rattle.bp_tree.specs.Texts.{words_of}
-use Rattle.bp_tree.specs.TextFaults.{Language, Begins, IsNumberWord, IsTokenFault, StopsAt}
-use Rattle.bp_tree.specs.TextFaults.{HasTokenFault, IsAllowed}
+use Rattle.bp_tree.specs.TextFaults.{Language, Begins, IsNumberWord, IsTokenFault, StopsAtToken}
+use Rattle.bp_tree.specs.TextFaults.{HasTokenFault, StandsInTexts}
 use Rattle.bp_tree.proofs.NameLists.{words-append}
 
 -- ---- the token
@@ -92,7 +92,7 @@ one_reason L ts t place (Shape p) (Shape q) h k = ap Shape (h.0 ∙ sym k.0)
 
 -- ---- both
 
-one_stop : (L : Language) (ts : List Placed) (f g : BpFault) → StopsAt L ts f → StopsAt L ts g
+one_stop : (L : Language) (ts : List Placed) (f g : BpFault) → StopsAtToken L ts f → StopsAtToken L ts g
     → f ≡ g
 one_stop L ts f g s r =
     elim (in_order s.front r.front s.token r.token s.behind r.behind (sym s.parts ∙ r.parts)) [
@@ -106,7 +106,7 @@ one_stop L ts f g s r =
       | inr (inr m) ↦ absurd (r.stops (fewer L r.front s.front r.token m.0 m.1 s.begins))
     ]
 
-goes_on : (L : Language) (ts : List Placed) (f : BpFault) → StopsAt L ts f
+goes_on : (L : Language) (ts : List Placed) (f : BpFault) → StopsAtToken L ts f
     → Begins L 0 (words_of ts) → ⊥
 goes_on L ts f s b =
     s.stops (fewer L s.front ts s.token s.behind
@@ -122,8 +122,8 @@ one_fault L ts end f g (inr c) (inr d) = c.0 ∙ sym d.0
 -- ---- bytes that may not stand in a text
 
 pub not_allowed : (front behind : List Placed) (byte place : ℕ)
-    → All IsAllowed (front ++ record { token = Barred byte; place = place } ∷ behind) → ⊥
+    → All StandsInTexts (front ++ record { token = Barred byte; place = place } ∷ behind) → ⊥
 not_allowed [] behind byte place all =
-    All-head IsAllowed (record { token = Barred byte; place = place }) behind all byte refl
+    All-head StandsInTexts (record { token = Barred byte; place = place }) behind all byte refl
 not_allowed (t ∷ front) behind byte place all =
-    not_allowed front behind byte place (All-tail IsAllowed t _ all)
+    not_allowed front behind byte place (All-tail StandsInTexts t _ all)

@@ -23,7 +23,7 @@ abbrev pub range_syms : List Sym
 range_syms = ARange ∷ body_syms
 
 -- a part that may be left out was read, and its tokens are as V says
-pub record IsPart (now : Sym) (next : List Sym) (V : List Token → Type 0) (ts after : List Placed) : Type 0 where
+pub record IsHeaderPart (now : Sym) (next : List Sym) (V : List Token → Type 0) (ts after : List Placed) : Type 0 where
   pub front : List Placed
   pub parts : ts ≡ front ++ after
   pub value : V (words_of front)

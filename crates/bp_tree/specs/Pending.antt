@@ -31,12 +31,12 @@ seen code.Close = Close
 seen (code.Word w) = Word w.now
 seen (code.Barred b) = Barred b
 
-abbrev pub placed : Next → Placed
-placed n = record { token = seen n.token; place = n.place }
+abbrev pub placed_first : Next → Placed
+placed_first n = record { token = seen n.token; place = n.place }
 
 -- the first of these tokens, before those that are pending after it
-abbrev pub IsNext : List Placed → Next → Type 0
-IsNext ts n = ts ≡ placed n ∷ pending n.after
+abbrev pub IsNextToken : List Placed → Next → Type 0
+IsNextToken ts n = ts ≡ placed_first n ∷ pending n.after
 
 -- a word of so many bytes comes first
 pub record IsFirstWord (size : ℕ) (bytes : List ℕ) : Type 0 where

@@ -10,7 +10,7 @@ use Rattle.bp_tree.specs.Tokens.{Token, Open, Close, Word, Placed}
 use Rattle.bp_tree.specs.Numerals.{IsNumeralOf}
 use Rattle.bp_tree.specs.Grammar.{AreExprs, IsOpened, IsExpr, IsStart, IsRange, op_words, IsOp, op_nesting}
 use Rattle.bp_tree.specs.Texts.{words_of}
-use Rattle.bp_tree.specs.TextFaults.{Language, Begins, StopsAt}
+use Rattle.bp_tree.specs.TextFaults.{Language, Begins, StopsAtToken}
 use Rattle.bp_tree.specs.declared.stop.Stop.{Stop}
 use Rattle.bp_tree.specs.declared.stop.Stop.TheVariants.{Early, At}
 use Rattle.bp_tree.specs.declared.form.Form.{Form}
@@ -106,19 +106,19 @@ form_nesting form.Merge = 0
 form_nesting form.Override = 0
 form_nesting (form.Apply kind) = kind_nesting kind
 
-abbrev pub op_of : Operator → Op
-op_of (operator.Rename a b) = Rename a b
-op_of (operator.Restrict a) = Restrict a
-op_of (operator.Freeze a) = Freeze a
-op_of (operator.Hide a) = Hide a
-op_of (operator.Show names) = Show names
-op_of (operator.CopyAs a b) = CopyAs a b
+abbrev pub op_meant : Operator → Op
+op_meant (operator.Rename a b) = Rename a b
+op_meant (operator.Restrict a) = Restrict a
+op_meant (operator.Freeze a) = Freeze a
+op_meant (operator.Hide a) = Hide a
+op_meant (operator.Show names) = Show names
+op_meant (operator.CopyAs a b) = CopyAs a b
 
 -- the tokens, after the keyword, are the operator's
 abbrev pub IsOperator : Applied → Operator → List Token → Type 0
 IsOperator kind op ts =
-    (Word (operator_keyword kind) ∷ ts ≡ op_words (op_of op)) × IsOp (op_of op)
-    × (op_nesting (op_of op) ≤ kind_nesting kind)
+    (Word (operator_keyword kind) ∷ ts ≡ op_words (op_meant op)) × IsOp (op_meant op)
+    × (op_nesting (op_meant op) ≤ kind_nesting kind)
 
 -- the tokens are more operands and `)`, behind those that are given
 abbrev pub AreOperands : ℕ → List Expr → List Expr → List Token → Type 0
@@ -131,7 +131,7 @@ AreOperands room given all ts =
 -- why the tokens stop being the beginning of something, or are only a beginning
 abbrev pub WhyStops : Language → List Placed → Stop → Type 0
 WhyStops L ts Early = Begins L 0 (words_of ts) × ¬ L 0 (words_of ts)
-WhyStops L ts (At fault) = StopsAt L ts fault
+WhyStops L ts (At fault) = StopsAtToken L ts fault
 
 -- something is said in these symbols
 abbrev pub Completable : List Sym → Type 0

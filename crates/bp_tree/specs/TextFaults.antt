@@ -47,7 +47,7 @@ IsTokenFault L ts t place (Shape p) =
     (p ≡ place) × ¬ IsTooDeep L ts t × ¬ IsNoNumber L ts t × ¬ IsOffRange L ts t
 
 -- the first token with which nothing begins any more, and what is wrong with it
-pub record StopsAt (L : Language) (ts : List Placed) (fault : BpFault) : Type 0 where
+pub record StopsAtToken (L : Language) (ts : List Placed) (fault : BpFault) : Type 0 where
   pub front : List Placed
   pub token : Placed
   pub behind : List Placed
@@ -57,12 +57,12 @@ pub record StopsAt (L : Language) (ts : List Placed) (fault : BpFault) : Type 0 
   pub why : IsTokenFault L (words_of front) token.token token.place fault
 
 -- all tokens begin something and aren't it, and the text ends here
-abbrev pub EndsEarly : Language → List Placed → ℕ → BpFault → Type 0
-EndsEarly L ts end fault =
+abbrev pub EndsUnfinished : Language → List Placed → ℕ → BpFault → Type 0
+EndsUnfinished L ts end fault =
     (fault ≡ Shape end) × Begins L 0 (words_of ts) × ¬ L 0 (words_of ts)
 
 abbrev pub HasTokenFault : Language → List Placed → ℕ → BpFault → Type 0
-HasTokenFault L ts end fault = StopsAt L ts fault ⊎ EndsEarly L ts end fault
+HasTokenFault L ts end fault = StopsAtToken L ts fault ⊎ EndsUnfinished L ts end fault
 
 -- ---- the fault of a text
 
@@ -70,19 +70,19 @@ abbrev pub images : Language
 images more ts = (i : ImageParts) × IsImageOf (max_room + more) ts i
 
 -- a token that stands in texts
-abbrev pub IsAllowed : Placed → Type 0
-IsAllowed t = (byte : ℕ) → t.token ≡ Barred byte → ⊥
+abbrev pub StandsInTexts : Placed → Type 0
+StandsInTexts t = (byte : ℕ) → t.token ≡ Barred byte → ⊥
 
 -- the first byte that no token or comment may have is here
 abbrev pub IsBarredAt : List Placed → ℕ → Type 0
 IsBarredAt ts place =
     (front : List Placed) × (byte : ℕ) × (behind : List Placed)
-    × (ts ≡ front ++ record { token = Barred byte; place = place } ∷ behind) × All IsAllowed front
+    × (ts ≡ front ++ record { token = Barred byte; place = place } ∷ behind) × All StandsInTexts front
 
 -- a fault of the tokens, none of which is barred
 abbrev pub IsShaped : List ℕ → BpFault → Type 0
 IsShaped text fault =
-    (length text ≤ 65536) × All IsAllowed (tokens_of text)
+    (length text ≤ 65536) × All StandsInTexts (tokens_of text)
     × HasTokenFault images (tokens_of text) (length text) fault
 
 abbrev pub IsTextFault : List ℕ → BpFault → Type 0

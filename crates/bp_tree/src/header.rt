@@ -4,7 +4,7 @@ ghost use Rattle.std.specs.Prelude.{◌≡◌, ◌∷◌, [], MatchOption, IsTru
 ghost use Rattle.omos_base.specs.Fault.{MatchFault};
 ghost use Rattle.omos_base.specs.SymNames.{IsSymName};
 ghost use Rattle.bp_tree.specs.Grammar.{IsStart, IsRange};
-ghost use Rattle.bp_tree.specs.Header.{IsOpening, IsPart, body_syms, range_syms};
+ghost use Rattle.bp_tree.specs.Header.{IsOpening, IsHeaderPart, body_syms, range_syms};
 ghost use Rattle.bp_tree.specs.Pending.{pending};
 ghost use Rattle.bp_tree.specs.Symbols.{It, AName, AStart, ARange, AreSyms, AreRead, Fails};
 ghost use Rattle.bp_tree.specs.Symbols.{WhyStops};
@@ -66,7 +66,7 @@ fn entry<'a>(alloc: Global, from: Reader<'a>) -> Result<(SymName, Reader<'a>), F
 
 /// The start, and what comes after it.
 pub(crate) fn start<'a>(alloc: Global, from: Reader<'a>) -> Result<(Start, Reader<'a>), Fault<Stop>>
-    ensures { MatchFault result (λ r. IsPart AStart range_syms (λ ws. IsStart ws r.0)
+    ensures { MatchFault result (λ r. IsHeaderPart AStart range_syms (λ ws. IsStart ws r.0)
         (pending from.entry) (pending r.1))
         (WhyStops (AreSyms (AStart ∷ range_syms)) (pending from.entry)) }
 {
@@ -92,7 +92,7 @@ pub(crate) fn start<'a>(alloc: Global, from: Reader<'a>) -> Result<(Start, Reade
 
 /// The range, and what comes after it.
 pub(crate) fn range<'a>(from: Reader<'a>) -> Result<(u64, u64, Reader<'a>), Fault<Stop>>
-    ensures { MatchFault result (λ r. IsPart ARange body_syms (λ ws. IsRange ws r.0 r.1)
+    ensures { MatchFault result (λ r. IsHeaderPart ARange body_syms (λ ws. IsRange ws r.0 r.1)
         (pending from.entry) (pending r.2))
         (WhyStops (AreSyms (ARange ∷ body_syms)) (pending from.entry)) }
 {

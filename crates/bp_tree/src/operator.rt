@@ -2,7 +2,7 @@
 
 ghost use Rattle.std.specs.Prelude.{◌≡◌, IfOk};
 ghost use Rattle.bp_tree.specs.Grammar.{applied};
-ghost use Rattle.bp_tree.specs.Symbols.{op_of};
+ghost use Rattle.bp_tree.specs.Symbols.{op_meant};
 
 use omos_base::{NoMemory, SymName};
 use omos_model::Expr;
@@ -23,7 +23,7 @@ pub(crate) enum Operator {
 impl Operator {
     /// The operator on an operand.
     pub(crate) fn apply(self, alloc: Global, operand: Expr) -> Result<Expr, NoMemory>
-        ensures { IfOk result (λ e. e ≡ applied (op_of self) operand) }
+        ensures { IfOk result (λ e. e ≡ applied (op_meant self) operand) }
     {
         let body = Boxed::new(alloc, operand)?;
         Ok(match self {

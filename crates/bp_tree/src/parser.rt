@@ -9,7 +9,7 @@ ghost use Rattle.bp_tree.specs.Grammar.{IsImageOf};
 ghost use Rattle.bp_tree.specs.Header.{HasHead, image_syms};
 ghost use Rattle.bp_tree.specs.Pending.{pending};
 ghost use Rattle.bp_tree.specs.Symbols.{AreSyms, WhyStops};
-ghost use Rattle.bp_tree.specs.TextFaults.{IsAllowed, IsBarredAt, IsTextFault, images};
+ghost use Rattle.bp_tree.specs.TextFaults.{StandsInTexts, IsBarredAt, IsTextFault, images};
 ghost use Rattle.bp_tree.specs.Texts.{IsText, words_of, max_room};
 
 use crate::header::{range, start};
@@ -23,7 +23,7 @@ use std::alloc::Global;
 
 /// The place of the first byte that may not stand in a text.
 fn first_barred(from: Reader) -> Option<u32>
-    ensures { MatchOption result (All IsAllowed (pending from.entry))
+    ensures { MatchOption result (All StandsInTexts (pending from.entry))
         (IsBarredAt (pending from.entry)) }
 {
     let mut rest = from;

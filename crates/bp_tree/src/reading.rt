@@ -5,7 +5,7 @@ ghost use Rattle.std.specs.List.{list_all};
 ghost use Rattle.omos_model.specs.Names.{is_name_byte};
 ghost use Rattle.bp_tree.specs.Tokens.{begins_word};
 ghost use Rattle.bp_tree.specs.Tokens as spec;
-ghost use Rattle.bp_tree.specs.Pending.{pending, begins_comment, AtByte, AtToken, IsFirstWord, IsNext};
+ghost use Rattle.bp_tree.specs.Pending.{pending, begins_comment, AtByte, AtToken, IsFirstWord, IsNextToken};
 
 use crate::token::{Next, Reader, Token};
 use omos_base::is_name_byte;
@@ -109,7 +109,7 @@ impl<'a> Reader<'a> {
     /// The first token, or none at the end.
     #[tactic(auto, using(crate::proofs::Runs::word_at))]
     pub(crate) fn next(self) -> Option<Next<'a>>
-        ensures { MatchOption result (pending self.entry ≡ []) (IsNext (pending self.entry)) }
+        ensures { MatchOption result (pending self.entry ≡ []) (IsNextToken (pending self.entry)) }
     {
         let Reader { rest, place } = self.skip();
         if let Some(size) = word_size(rest) {

@@ -19,9 +19,9 @@ is_number word =
     && not (has_lead word)
 
 -- the value of decimal digits
-abbrev pub value_of : List ℕ → ℕ
-value_of word = fold (λ value byte. 10 * value + (byte - 48)) 0 word
+abbrev pub decimal_value : List ℕ → ℕ
+decimal_value word = fold (λ value byte. 10 * value + (byte - 48)) 0 word
 
 -- the number that a word says, if it says one
-abbrev pub number_of : List ℕ → Option ℕ
-number_of word = if is_number word then Some (value_of word) else None
+abbrev pub number_said : List ℕ → Option ℕ
+number_said word = if is_number word then Some (decimal_value word) else None

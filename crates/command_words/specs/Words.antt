@@ -4,7 +4,7 @@ use Rattle.std.specs.Prelude.{Option, None}
 use Rattle.std.specs.Prelude.{Some, if◌then◌else◌}
 use Rattle.std.specs.Cmp.Lexicographic.{pointwise}
 use Rattle.omos_base.specs.Limits.{AreLimits, Counts}
-use Rattle.command_words.specs.Numbers.{number_of}
+use Rattle.command_words.specs.Numbers.{number_said}
 use Rattle.command_words.specs.declared.server.SocketWords.{SocketWords}
 
 -- the word is this text
@@ -26,20 +26,20 @@ limits_in (Some cache) (Some steps) =
 limits_in _ _ = None
 
 -- the limits that two words say
-abbrev pub limits_of : List ℕ → List ℕ → Option Counts
-limits_of cache steps = limits_in (number_of cache) (number_of steps)
+abbrev pub limits_said : List ℕ → List ℕ → Option Counts
+limits_said cache steps = limits_in (number_said cache) (number_said steps)
 
 abbrev pub count_in : ℕ → Option ℕ → Option ℕ
 count_in most (Some count) = if nat_le 1 count && nat_le count most then Some count else None
 count_in most None = None
 
 -- the count that a word says, if it lies from 1 to so much
-abbrev pub count_of : ℕ → List ℕ → Option ℕ
-count_of most word = count_in most (number_of word)
+abbrev pub count_said : ℕ → List ℕ → Option ℕ
+count_said most word = count_in most (number_said word)
 
 abbrev pub stdio_limits : List ℕ → List ℕ → List ℕ → Option Counts
 stdio_limits command cache steps =
-    if is_word command (codes "stdio") then limits_of cache steps else None
+    if is_word command (codes "stdio") then limits_said cache steps else None
 
 -- `stdio CACHE STEPS`
 abbrev pub stdio_words : List (List ℕ) → Option Counts
@@ -48,7 +48,7 @@ stdio_words _ = None
 
 abbrev pub workload_count : List ℕ → List ℕ → Option ℕ
 workload_count command count =
-    if is_word command (codes "workload") then count_of 200 count else None
+    if is_word command (codes "workload") then count_said 200 count else None
 
 -- `workload N`, for 1 to 200
 abbrev pub workload_words : List (List ℕ) → Option ℕ
@@ -68,7 +68,7 @@ served_by _ _ _ = None
 -- 1 to 16 workers, 1 to 1,000,000 sessions, and lawful limits
 abbrev pub socket_numbers : List ℕ → List ℕ → List ℕ → List ℕ → Option SocketWords
 socket_numbers workers sessions cache steps =
-    served_by (count_of 16 workers) (count_of 1000000 sessions) (limits_of cache steps)
+    served_by (count_said 16 workers) (count_said 1000000 sessions) (limits_said cache steps)
 
 abbrev pub socket_of : List ℕ → List ℕ → List ℕ → List ℕ → List ℕ → List ℕ → Option SocketWords
 socket_of command path workers sessions cache steps =

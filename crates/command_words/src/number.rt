@@ -2,7 +2,7 @@
 
 ghost use Rattle.std.specs.Prelude.{◌≡◌, ◌+◌, ◌-◌, ◌*◌, ◌<◌, ◌≤◌, IsTrue, length};
 ghost use Rattle.std.specs.List.{list_all};
-ghost use Rattle.command_words.specs.Numbers.{has_lead, is_digit, is_number, number_of, value_of};
+ghost use Rattle.command_words.specs.Numbers.{has_lead, is_digit, is_number, number_said, decimal_value};
 
 /// A zero stands before another digit.
 fn has_lead(word: &[u8]) -> bool
@@ -38,10 +38,10 @@ fn next_value(value: u32, digit: u8) -> u32
 }
 
 /// The value of at most nine digits.
-fn value_of(word: &[u8]) -> u32
+fn decimal_value(word: &[u8]) -> u32
     requires few { length word.now ≤ 9 }
     requires digits { IsTrue (list_all is_digit word.now) }
-    ensures { result ≡ value_of word.now }
+    ensures { result ≡ decimal_value word.now }
 {
     let mut value = 0u32;
     'digits: for byte in word {
@@ -52,11 +52,11 @@ fn value_of(word: &[u8]) -> u32
 
 /// The number that a word of a command line says: 1 to 9 decimal digits, of which the first is a
 /// zero only where it is the only one. None where the word is no such number.
-pub fn number_of(word: &[u8]) -> Option<u32>
-    ensures { result ≡ number_of word.now }
+pub fn number_said(word: &[u8]) -> Option<u32>
+    ensures { result ≡ number_said word.now }
 {
     if is_number(word) {
-        Some(value_of(word))
+        Some(decimal_value(word))
     } else {
         None
     }

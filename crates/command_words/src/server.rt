@@ -1,7 +1,7 @@
 //! The words of the server's commands.
 
 ghost use Rattle.std.specs.Prelude.{◌≡◌, ◌≤◌, IfSome, map, string_bytes};
-ghost use Rattle.command_words.specs.Words.{AreWithin, is_word, count_of, limits_of, socket_of};
+ghost use Rattle.command_words.specs.Words.{AreWithin, is_word, count_said, limits_said, socket_of};
 ghost use Rattle.command_words.specs.Words.{socket_numbers, socket_words, stdio_limits, stdio_words};
 ghost use Rattle.command_words.specs.Words.{workload_count, workload_words};
 
@@ -29,8 +29,8 @@ fn is_word(word: &str, text: &str) -> bool
 }
 
 /// The limits that two words say.
-fn limits_of(cache: &str, steps: &str) -> Option<Limits>
-    ensures { result ≡ limits_of cache.now steps.now }
+fn limits_said(cache: &str, steps: &str) -> Option<Limits>
+    ensures { result ≡ limits_said cache.now steps.now }
 {
     let cache = number_of(cache.as_bytes())?;
     let steps = number_of(steps.as_bytes())?;
@@ -38,8 +38,8 @@ fn limits_of(cache: &str, steps: &str) -> Option<Limits>
 }
 
 /// The count that a word says, if it lies from 1 to so much.
-fn count_of(word: &str, most: u32) -> Option<u32>
-    ensures said { result ≡ count_of most word.now }
+fn count_said(word: &str, most: u32) -> Option<u32>
+    ensures said { result ≡ count_said most word.now }
     ensures within { IfSome result (λ n. (1 ≤ n) × (n ≤ most)) }
 {
     let count = number_of(word.as_bytes())?;
@@ -55,7 +55,7 @@ fn stdio_limits(command: &str, cache: &str, steps: &str) -> Option<Limits>
     ensures { result ≡ stdio_limits command.now cache.now steps.now }
 {
     if is_word(command, "stdio") {
-        limits_of(cache, steps)
+        limits_said(cache, steps)
     } else {
         None
     }
@@ -66,7 +66,7 @@ fn workload_count(command: &str, count: &str) -> Option<u32>
     ensures { result ≡ workload_count command.now count.now }
 {
     if is_word(command, "workload") {
-        count_of(count, 200)
+        count_said(count, 200)
     } else {
         None
     }
@@ -77,9 +77,9 @@ fn socket_numbers(workers: &str, sessions: &str, cache: &str, steps: &str) -> Op
     ensures said { result ≡ socket_numbers workers.now sessions.now cache.now steps.now }
     ensures within { IfSome result AreWithin }
 {
-    let workers = count_of(workers, 16)?;
-    let sessions = count_of(sessions, 1_000_000)?;
-    let limits = limits_of(cache, steps)?;
+    let workers = count_said(workers, 16)?;
+    let sessions = count_said(sessions, 1_000_000)?;
+    let limits = limits_said(cache, steps)?;
     Some(SocketWords {
         workers,
         sessions,

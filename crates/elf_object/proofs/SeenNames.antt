@@ -17,7 +17,7 @@ use Rattle.std.specs.Cmp.{both_tied}
 use Rattle.std.specs.Ordering.{nat_cmp}
 use Rattle.std.proofs.lemmas.Cmp.{nat_cmp_total, tied_itself}
 use Rattle.omos_model.proofs.Names.{is_eq-name_cmp, same_name-swap, same_name-true}
-use Rattle.elf_object.specs.Seen.{HaveSeen, digest, in_place, is_defined_below, is_held}
+use Rattle.elf_object.specs.Seen.{HaveSeen, digest, symbol_in_place, is_defined_below, is_held_name}
 use Rattle.elf_object.specs.Seen.{name_order}
 use Rattle.elf_object.proofs.DefinedBelow.{again_as, below_export, below_other}
 
@@ -45,19 +45,19 @@ is_eq-name_order a b =
 
 -- ---- a free place
 
-free_held : (file places : List ℕ) (n : Name) → in_place places n ≡ 0
-    → is_held file places n ≡ false
+free_held : (file places : List ℕ) (n : Name) → symbol_in_place places n ≡ 0
+    → is_held_name file places n ≡ false
 free_held file places n free =
     ap (λ (j : ℕ). not (j == 0) && same_name n (name_of file j)) free
 
 free_below : (file : List ℕ) (k : ℕ) (places : List ℕ) (others : Name → Bool) (n : Name)
-    → HaveSeen file k places others → in_place places n ≡ 0 → is_defined_below file k n ≡ false
+    → HaveSeen file k places others → symbol_in_place places n ≡ 0 → is_defined_below file k n ≡ false
 free_below file k places others n seen free =
     seen.defined n ∙ ap (λ b. b || others n) (free_held file places n free) ∙ seen.taken n free
 
 pub free_new : (file : List ℕ) (k : ℕ) (places : List ℕ) (others : Name → Bool) (name : Name)
     → is_export file k ≡ true → name ≡ name_of file k → HaveSeen file k places others
-    → in_place places name ≡ 0 → is_again file k ≡ false
+    → symbol_in_place places name ≡ 0 → is_again file k ≡ false
 free_new file k places others name export same seen free =
     again_as file k name false export same (free_below file k places others name seen free)
 
@@ -124,17 +124,17 @@ module _ (file : List ℕ) (k : ℕ) (places : List ℕ) (others : Name → Bool
   inside : place places name < length places
   inside = mod-lt (digest name) seen.some
 
-  put_place : (n : Name) → in_place put n ≡ get_or put (place places n) 0
+  put_place : (n : Name) → symbol_in_place put n ≡ get_or put (place places n) 0
   put_place n =
       ap (λ (c : ℕ). get_or put (digest n % c) 0) (length-set places (place places name) k)
 
-  put_here : (n : Name) → place places n ≡ place places name → in_place put n ≡ k
+  put_here : (n : Name) → place places n ≡ place places name → symbol_in_place put n ≡ k
   put_here n e =
       put_place n ∙ ap (λ (p : ℕ). get_or put p 0) e
       ∙ get_or-set_same places (place places name) k 0 inside
 
   put_other : (n : Name) → (place places n ≡ place places name → ⊥)
-      → in_place put n ≡ in_place places n
+      → symbol_in_place put n ≡ symbol_in_place places n
   put_other n apart =
       put_place n ∙ get_or-set_other places (place places name) (place places n) k 0 apart
 
@@ -143,7 +143,7 @@ module _ (file : List ℕ) (k : ℕ) (places : List ℕ) (others : Name → Bool
   apart_names n apart =
       false_from_ne_true _ (λ e. apart (ap (place places) (same_name-true n name e)))
 
-  held_here : (n : Name) → in_place put n ≡ k → is_held file put n ≡ same_name n name
+  held_here : (n : Name) → symbol_in_place put n ≡ k → is_held_name file put n ≡ same_name n name
   held_here n e =
       ap (λ (j : ℕ). not (j == 0) && same_name n (name_of file j)) e
       ∙ ap (λ b. not b && same_name n (name_of file k)) (nonzero k low)
@@ -160,12 +160,12 @@ module _ (file : List ℕ) (k : ℕ) (places : List ℕ) (others : Name → Bool
       get_or-set_other places (place places name) p k 0 (eqb-false p (place places name) e) in
       omega (arith, other, seen.below p)
 
-  defined_at : in_place places name ≡ 0 → (n : Name) (b : Bool)
+  defined_at : symbol_in_place places name ≡ 0 → (n : Name) (b : Bool)
       → (place places n == place places name) ≡ b
-      → is_defined_below file (k + 1) n ≡ (is_held file put n || others n)
+      → is_defined_below file (k + 1) n ≡ (is_held_name file put n || others n)
   defined_at free n true e =
       let here = eqb-true (place places n) (place places name) e in
-      let none : in_place places n ≡ 0 = ap (λ (p : ℕ). get_or places p 0) here ∙ free in
+      let none : symbol_in_place places n ≡ 0 = ap (λ (p : ℕ). get_or places p 0) here ∙ free in
       below_export file k name n low export same
       ∙ ap (λ b. b || same_name n name) (free_below file k places others n seen none)
       ∙ sym (ap (λ b. b || others n) (held_here n (put_here n here))
@@ -179,7 +179,7 @@ module _ (file : List ℕ) (k : ℕ) (places : List ℕ) (others : Name → Bool
       (sym (put_other n apart))
 
   taken_at : (n : Name) (b : Bool) → (place places n == place places name) ≡ b
-      → in_place put n ≡ 0 → others n ≡ false
+      → symbol_in_place put n ≡ 0 → others n ≡ false
   taken_at n true e h =
       let here = put_here n (eqb-true (place places n) (place places name) e) in
       absurd (omega (arith, h, here, low))
@@ -187,7 +187,7 @@ module _ (file : List ℕ) (k : ℕ) (places : List ℕ) (others : Name → Bool
       seen.taken n (sym (put_other n (eqb-false (place places n) (place places name) e)) ∙ h)
 
   -- the name takes its free place
-  pub seen_put : in_place places name ≡ 0 → HaveSeen file (k + 1) put others
+  pub seen_put : symbol_in_place places name ≡ 0 → HaveSeen file (k + 1) put others
   seen_put free =
       record {
         some = omega (arith, seen.some, length-set places (place places name) k);
@@ -199,7 +199,7 @@ module _ (file : List ℕ) (k : ℕ) (places : List ℕ) (others : Name → Bool
   -- ---- a place that is taken
 
   abbrev there : ℕ
-  there = in_place places name
+  there = symbol_in_place places name
 
   -- by the same name
   pub again_held : (there ≡ 0 → ⊥) → same_name name (name_of file there) ≡ true
@@ -229,9 +229,9 @@ module _ (file : List ℕ) (k : ℕ) (places : List ℕ) (others : Name → Bool
 
   more_taken : (more : Name → Bool) → (there ≡ 0 → ⊥)
       → ((n : Name) → more n ≡ cond (same_name n name) true (others n))
-      → (n : Name) → in_place places n ≡ 0 → (b : Bool) → same_name n name ≡ b → more n ≡ false
+      → (n : Name) → symbol_in_place places n ≡ 0 → (b : Bool) → same_name n name ≡ b → more n ≡ false
   more_taken more some e n free true is =
-      absurd (some (ap (in_place places) (sym (same_name-true n name is)) ∙ free))
+      absurd (some (ap (symbol_in_place places) (sym (same_name-true n name is)) ∙ free))
   more_taken more some e n free false is =
       e n ∙ ap (λ b. cond b true (others n)) is ∙ seen.taken n free
 
@@ -246,8 +246,8 @@ module _ (file : List ℕ) (k : ℕ) (places : List ℕ) (others : Name → Bool
         defined = λ n.
             below_export file k name n low export same
             ∙ ap (λ b. b || same_name n name) (seen.defined n)
-            ∙ or_regroup (is_held file places n) (others n) (same_name n name)
-            ∙ ap (λ b. is_held file places n || b) (sym (more_is more e n));
+            ∙ or_regroup (is_held_name file places n) (others n) (same_name n name)
+            ∙ ap (λ b. is_held_name file places n || b) (sym (more_is more e n));
         taken = λ n free.
             more_taken more some (more_is more e) n free (same_name n name) refl;
       }

@@ -26,16 +26,16 @@ is_defined_below file k n =
     list_any (λ j. is_export file j && same_name n (name_of file j)) (numbers_from 1 (k - 1))
 
 -- the number of the symbol in the name's place, or 0 where there is none
-abbrev pub in_place : List ℕ → Name → ℕ
-in_place places n = slice_index_or places (digest n % length places) 0
+abbrev pub symbol_in_place : List ℕ → Name → ℕ
+symbol_in_place places n = slice_index_or places (digest n % length places) 0
 
-abbrev pub is_held : List ℕ → List ℕ → Name → Bool
-is_held file places n =
-    not (in_place places n == 0) && same_name n (name_of file (in_place places n))
+abbrev pub is_held_name : List ℕ → List ℕ → Name → Bool
+is_held_name file places n =
+    not (symbol_in_place places n == 0) && same_name n (name_of file (symbol_in_place places n))
 
 -- what the symbols below k define is held in the table, or is among the others
 pub record HaveSeen (file : List ℕ) (k : ℕ) (places : List ℕ) (others : Name → Bool) : Type 0 where
   pub some : 0 < length places
   pub below : (p : ℕ) → slice_index_or places p 0 < k
-  pub defined : (n : Name) → is_defined_below file k n ≡ (is_held file places n || others n)
-  pub taken : (n : Name) → in_place places n ≡ 0 → others n ≡ false
+  pub defined : (n : Name) → is_defined_below file k n ≡ (is_held_name file places n || others n)
+  pub taken : (n : Name) → symbol_in_place places n ≡ 0 → others n ≡ false

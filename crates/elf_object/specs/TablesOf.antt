@@ -7,7 +7,7 @@ use Rattle.omos_model.specs.ElfFaults.{is_kept, object_fault}
 use Rattle.elf_object.specs.Stages.{HasHeaders}
 
 -- by a section's number whether it is kept; behind the last none is
-pub record AreKept (file : List ℕ) (kept : List Bool) : Type 0 where
+pub record AreKeptSections (file : List ℕ) (kept : List Bool) : Type 0 where
   pub all : length kept ≡ e_shnum file
   pub each : (i : ℕ) → slice_index_or kept i false ≡ is_kept file i
 
@@ -22,5 +22,5 @@ pub record AreTables (file : List ℕ) (kept : List Bool) (count at : ℕ) (stri
     : Type 0 where
   pub right : object_fault file ≡ None
   pub headers : HasHeaders file
-  pub sections : AreKept file kept
+  pub sections : AreKeptSections file kept
   pub symbols : AreSymbols file count at strings

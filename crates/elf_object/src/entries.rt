@@ -11,7 +11,7 @@ ghost use Rattle.omos_model.specs.ElfFields.{sections};
 ghost use Rattle.omos_model.specs.ElfFaults.{entries, entry_count, is_aim_of, is_wrong_entry};
 ghost use Rattle.omos_model.specs.ElfFaults.{is_wrong_rela, kind_of};
 ghost use Rattle.elf_object.specs.Stages.{HasHeaders, IsReadable};
-ghost use Rattle.elf_object.specs.TablesOf.{AreKept, AreSymbols};
+ghost use Rattle.elf_object.specs.TablesOf.{AreKeptSections, AreSymbols};
 
 use crate::kept::{is_kept, is_section};
 use crate::reads::{count_of_sections, section};
@@ -70,7 +70,7 @@ fn is_in_target(r_type: u32, r_offset: u64, size: u64) -> bool
 /// A symbol by its number, 0 among them, that isn't a LOCAL one of a section that isn't kept.
 fn is_aim(file: &[u8], kept: &[bool], table: Symbols<'_>, k: u32) -> bool
     requires headers { HasHeaders file.now }
-    requires sections { AreKept file.now kept.now }
+    requires sections { AreKeptSections file.now kept.now }
     requires right { AreSymbols file.now table.count table.at table.strings.now }
     ensures { result ≡ is_aim_of file.now k }
 {
@@ -88,7 +88,7 @@ fn is_aim(file: &[u8], kept: &[bool], table: Symbols<'_>, k: u32) -> bool
 /// A relocation of another type than NONE whose type, field or symbol is wrong.
 fn is_wrong(file: &[u8], kept: &[bool], table: Symbols<'_>, size: u64, entry: Rela) -> bool
     requires headers { HasHeaders file.now }
-    requires sections { AreKept file.now kept.now }
+    requires sections { AreKeptSections file.now kept.now }
     requires right { AreSymbols file.now table.count table.at table.strings.now }
     ensures { let r_type = entry.r_info % 2 ^ 32 in
         result ≡ (not (r_type == 0)
@@ -104,7 +104,7 @@ fn is_wrong(file: &[u8], kept: &[bool], table: Symbols<'_>, size: u64, entry: Re
 /// The first relocation of a section that is wrong.
 fn first_in(file: &[u8], kept: &[bool], table: Symbols<'_>, i: usize) -> Option<u32>
     requires headers { HasHeaders file.now }
-    requires sections { AreKept file.now kept.now }
+    requires sections { AreKeptSections file.now kept.now }
     requires right { AreSymbols file.now table.count table.at table.strings.now }
     requires readable { IsReadable file.now i }
     ensures { result ≡ find (λ j. is_wrong_entry file.now (i, j))
@@ -125,7 +125,7 @@ fn first_in(file: &[u8], kept: &[bool], table: Symbols<'_>, i: usize) -> Option<
 /// The first relocation that is wrong, by its section and its number in that.
 pub(crate) fn first_wrong(file: &[u8], kept: &[bool], table: Symbols<'_>) -> Option<(u32, u32)>
     requires headers { HasHeaders file.now }
-    requires sections { AreKept file.now kept.now }
+    requires sections { AreKeptSections file.now kept.now }
     requires right { AreSymbols file.now table.count table.at table.strings.now }
     requires relas { find (is_wrong_rela file.now) (sections file.now) ≡ None }
     ensures { result ≡ find (is_wrong_entry file.now) (entries file.now) }

@@ -9,7 +9,7 @@ ghost use Rattle.omos_model.specs.ElfFaults.{loaded_types};
 ghost use Rattle.omos_model.specs.FragmentParts.{is_alignment};
 ghost use Rattle.elf_object.specs.Stages.{HasHeaders};
 ghost use Rattle.elf_object.specs.Checks.{fails};
-ghost use Rattle.elf_object.specs.TablesOf.{AreKept};
+ghost use Rattle.elf_object.specs.TablesOf.{AreKeptSections};
 
 use crate::reads::{count_of_sections, ends_within, section};
 use elf_words::values::{
@@ -94,7 +94,7 @@ fn is_loaded_section(file: &[u8], i: usize) -> bool
 /// By a section's number whether it is loaded, so that each header is tested once.
 pub(crate) fn kept_sections(alloc: Global, file: &[u8]) -> Result<Row<bool>, NoMemory>
     requires { HasHeaders file.now }
-    ensures { IfOk result (λ kept. AreKept file.now kept) }
+    ensures { IfOk result (λ kept. AreKeptSections file.now kept) }
 {
     let count = count_of_sections(file);
     let mut kept = Row::from_vec(Vec::with_capacity(alloc, count)?);
@@ -107,7 +107,7 @@ pub(crate) fn kept_sections(alloc: Global, file: &[u8]) -> Result<Row<bool>, NoM
 /// A section, by its number, that is loaded.
 #[tactic(auto, using(crate::proofs::KeptTable::kept_past))]
 pub(crate) fn is_kept(file: &[u8], kept: &[bool], i: usize) -> bool
-    requires { AreKept file.now kept.now }
+    requires { AreKeptSections file.now kept.now }
     ensures { result ≡ is_kept file.now i }
 {
     i < kept.len() && kept[i]
@@ -135,7 +135,7 @@ pub(crate) fn lies_in_file(file: &[u8], i: usize) -> bool
 /// A kept section whose alignment, size or place is wrong.
 fn is_wrong_section(file: &[u8], kept: &[bool], i: usize) -> bool
     requires headers { HasHeaders file.now }
-    requires sections { AreKept file.now kept.now }
+    requires sections { AreKeptSections file.now kept.now }
     requires there { i < e_shnum file.now }
     ensures { result ≡ is_wrong_section file.now i }
 {
@@ -173,7 +173,7 @@ pub(crate) enum Check {
 
 fn fails(check: Check, file: &[u8], kept: &[bool], i: usize) -> bool
     requires headers { HasHeaders file.now }
-    requires sections { AreKept file.now kept.now }
+    requires sections { AreKeptSections file.now kept.now }
     requires there { i < e_shnum file.now }
     ensures { result ≡ fails check file.now i }
 {
@@ -186,7 +186,7 @@ fn fails(check: Check, file: &[u8], kept: &[bool], i: usize) -> bool
 /// The first section that fails the check.
 pub(crate) fn first_failing(check: Check, file: &[u8], kept: &[bool]) -> Option<u32>
     requires headers { HasHeaders file.now }
-    requires sections { AreKept file.now kept.now }
+    requires sections { AreKeptSections file.now kept.now }
     ensures { result ≡ find (fails check file.now) (sections file.now) }
 {
     for i in 1..count_of_sections(file) {

@@ -4,7 +4,7 @@ ghost use Rattle.std.specs.Prelude.{◌≡◌, Some, None, IfOk};
 ghost use Rattle.omos_base.specs.Fault.{MatchFault};
 ghost use Rattle.omos_model.specs.ElfFaults.{object_fault};
 ghost use Rattle.elf_object.specs.Stages.{HasHeaders, rela_fault, section_fault, symbol_fault};
-ghost use Rattle.elf_object.specs.TablesOf.{AreKept, AreSymbols};
+ghost use Rattle.elf_object.specs.TablesOf.{AreKeptSections, AreSymbols};
 
 use crate::kept::{Check, first_failing, kept_sections};
 use crate::reads::header_fault;
@@ -17,7 +17,7 @@ use std::alloc::Global;
 
 fn section_fault(file: &[u8], kept: &[bool]) -> Option<ObjectFault>
     requires headers { HasHeaders file.now }
-    requires sections { AreKept file.now kept.now }
+    requires sections { AreKeptSections file.now kept.now }
     ensures { result ≡ section_fault file.now }
 {
     if let Some(i) = first_failing(Check::Kept, file, kept) {
@@ -36,7 +36,7 @@ fn symbol_fault(
     table: Symbols<'_>,
 ) -> Result<Option<ObjectFault>, NoMemory>
     requires headers { HasHeaders file.now }
-    requires sections { AreKept file.now kept.now }
+    requires sections { AreKeptSections file.now kept.now }
     requires right { AreSymbols file.now table.count table.at table.strings.now }
     ensures { IfOk result (λ x. x ≡ symbol_fault file.now) }
 {
@@ -49,7 +49,7 @@ fn symbol_fault(
 
 fn rela_fault(file: &[u8], kept: &[bool], table: Symbols<'_>) -> Option<ObjectFault>
     requires headers { HasHeaders file.now }
-    requires sections { AreKept file.now kept.now }
+    requires sections { AreKeptSections file.now kept.now }
     requires right { AreSymbols file.now table.count table.at table.strings.now }
     ensures { result ≡ rela_fault file.now }
 {

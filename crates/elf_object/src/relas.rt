@@ -8,7 +8,7 @@ ghost use Rattle.omos_model.specs.ElfFaults.{entries_up_to, entry_count, is_righ
 ghost use Rattle.omos_model.specs.ElfFaults.{is_used_rela};
 ghost use Rattle.omos_model.specs.ElfFaults.{is_wrong_rela};
 ghost use Rattle.elf_object.specs.Stages.{HasHeaders};
-ghost use Rattle.elf_object.specs.TablesOf.{AreKept};
+ghost use Rattle.elf_object.specs.TablesOf.{AreKeptSections};
 
 use crate::kept::{is_kept, is_nobits, lies_in_file};
 use crate::reads::{count_of_sections, section};
@@ -23,7 +23,7 @@ const MAX_ENTRIES: u64 = 65_535;
 /// A relocation section whose target is kept.
 pub(crate) fn is_used(file: &[u8], kept: &[bool], i: usize) -> bool
     requires headers { HasHeaders file.now }
-    requires sections { AreKept file.now kept.now }
+    requires sections { AreKeptSections file.now kept.now }
     requires there { i < e_shnum file.now }
     ensures { result ≡ is_used_rela file.now i }
 {
@@ -53,7 +53,7 @@ fn is_right_rela(file: &[u8], i: usize, before: u64) -> bool
 /// The entries of the used sections up to and with this one; none where it is wrong.
 fn entries_after(file: &[u8], kept: &[bool], i: usize, before: u64) -> Option<u64>
     requires headers { HasHeaders file.now }
-    requires sections { AreKept file.now kept.now }
+    requires sections { AreKeptSections file.now kept.now }
     requires counted { 1 ≤ i }
     requires there { i < e_shnum file.now }
     requires few { before ≤ 65535 }
@@ -81,7 +81,7 @@ fn entries_after(file: &[u8], kept: &[bool], i: usize, before: u64) -> Option<u6
 /// The first section that is wrong.
 pub(crate) fn first_wrong(file: &[u8], kept: &[bool]) -> Option<u32>
     requires headers { HasHeaders file.now }
-    requires sections { AreKept file.now kept.now }
+    requires sections { AreKeptSections file.now kept.now }
     ensures { result ≡ find (is_wrong_rela file.now) (sections file.now) }
 {
     let mut entries = 0;

@@ -11,7 +11,7 @@ ghost use Rattle.omos_model.specs.ElfFields.{st_info, symbol_at, symbols};
 ghost use Rattle.omos_model.specs.ElfFaults.{is_export, is_kept, is_wrong_symbol};
 ghost use Rattle.elf_words.specs.Sym.{sym_at};
 ghost use Rattle.elf_object.specs.Stages.{HasHeaders};
-ghost use Rattle.elf_object.specs.TablesOf.{AreKept, AreSymbols};
+ghost use Rattle.elf_object.specs.TablesOf.{AreKeptSections, AreSymbols};
 
 use crate::kept::{is_alignment, is_kept, is_section};
 use crate::names::{begins_with_name, rest_from, until_zero};
@@ -68,7 +68,7 @@ fn has_right_section(file: &[u8], binding: u8, index: u16) -> bool
 /// Within a kept section; a name of other objects' isn't of a section that isn't kept.
 fn has_right_value(file: &[u8], kept: &[bool], is_named: bool, index: u16, value: u64) -> bool
     requires headers { HasHeaders file.now }
-    requires sections { AreKept file.now kept.now }
+    requires sections { AreKeptSections file.now kept.now }
     ensures { result ≡ ((not (is_kept file.now index) || nat_le value (sh_size file.now index))
         && not (is_named && (is_section file.now index && not (is_kept file.now index)))) }
 {
@@ -99,7 +99,7 @@ fn has_right_name(table: Symbols<'_>, is_named: bool, st_name: u32) -> bool
 /// A symbol that is wrong by itself, whatever other symbols there are.
 fn is_wrong_symbol(file: &[u8], kept: &[bool], table: Symbols<'_>, k: u32) -> bool
     requires headers { HasHeaders file.now }
-    requires sections { AreKept file.now kept.now }
+    requires sections { AreKeptSections file.now kept.now }
     requires right { AreSymbols file.now table.count table.at table.strings.now }
     requires there { k < table.count }
     ensures { result ≡ is_wrong_symbol file.now k }
@@ -134,7 +134,7 @@ pub(crate) fn first_wrong(
     exports: &mut usize,
 ) -> Option<u32>
     requires headers { HasHeaders file.now }
-    requires sections { AreKept file.now kept.now }
+    requires sections { AreKeptSections file.now kept.now }
     requires right { AreSymbols file.now table.count table.at table.strings.now }
     ensures { result ≡ find (is_wrong_symbol file.now) (symbols file.now) }
 {

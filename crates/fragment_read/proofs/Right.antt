@@ -21,7 +21,7 @@ use Rattle.omos_model.proofs.Joined.{fourth, rest_false, rest_true}
 use Rattle.omos_model.proofs.Pieces.{kept_section, section_number}
 use Rattle.omos_model.proofs.Ranges.{InRange}
 use Rattle.omos_model.proofs.RightFile.{IsSymbolNumber, right_file, right_symbol}
-use Rattle.fragment_read.specs.Numbered.{is_placed}
+use Rattle.fragment_read.specs.Numbered.{has_place}
 
 -- ---- alignments
 
@@ -108,7 +108,7 @@ and_false true b h = h
 and_false false b h = refl
 
 pub placed_export : (file : List ℕ) (k : ℕ) → object_fault file ≡ None → 1 ≤ k
-    → k < symbol_count file → is_export file k ≡ true → is_placed file k ≡ true
+    → k < symbol_count file → is_export file k ≡ true → has_place file k ≡ true
 placed_export file k right low high is =
     let symbol = right_symbol file (right_file file right) k (number file k low high) in
     let export = and_parts (has_name file k) (not (st_shndx file k == 0)) is in
@@ -145,7 +145,7 @@ local_common file k right low high is = go (is_common file k) refl
 
 pub placed_local : (file : List ℕ) (k : ℕ) → object_fault file ≡ None → 1 ≤ k
     → k < symbol_count file → is_local file k ≡ true → is_of_dropped file k ≡ false
-    → is_placed file k ≡ true
+    → has_place file k ≡ true
 placed_local file k right low high is kept =
     let symbol = right_symbol file (right_file file right) k (number file k low high) in
     let zero_bound : binding file k ≡ 0 = eqb-true (binding file k) 0 is in
@@ -161,7 +161,7 @@ pub record KeptPlace (file : List ℕ) (k : ℕ) : Type 0 where
   pub small : st_value file k ≤ 8388608
 
 pub kept_place : (file : List ℕ) (k : ℕ) → object_fault file ≡ None → 1 ≤ k
-    → k < symbol_count file → is_placed file k ≡ true → (st_shndx file k == 65521) ≡ false
+    → k < symbol_count file → has_place file k ≡ true → (st_shndx file k == 65521) ≡ false
     → is_common file k ≡ false → KeptPlace file k
 kept_place file k right low high placed fixed common =
     let symbol = right_symbol file (right_file file right) k (number file k low high) in

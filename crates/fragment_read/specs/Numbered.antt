@@ -18,8 +18,8 @@ pub record ArePieceNumbers (file : List ℕ) (numbers : List ℕ) : Type 0 where
   pub each : (i : ℕ) → i < e_shnum file → slice_index numbers i ≡ section_piece file i
 
 -- the symbol is a number, a common one or in a kept section
-abbrev pub is_placed : List ℕ → ℕ → Bool
-is_placed file k = (st_shndx file k == shn_abs) || is_common file k || is_kept file (st_shndx file k)
+abbrev pub has_place : List ℕ → ℕ → Bool
+has_place file k = (st_shndx file k == shn_abs) || is_common file k || is_kept file (st_shndx file k)
 
 abbrev pub export_of : List ℕ → ℕ → Export
 export_of file k = record { name = name_of file k; spot = spot_of file k }
@@ -33,6 +33,6 @@ abbrev pub name_if : List ℕ → ℕ → Option Name
 name_if file k = if has_name file k then Some (name_of file k) else None
 
 -- the names of the symbols by number; symbol 0 has none
-pub record AreNames (file : List ℕ) (names : List (Option Name)) : Type 0 where
+pub record AreSymbolNames (file : List ℕ) (names : List (Option Name)) : Type 0 where
   pub all : length names ≡ symbol_count file
   pub each : (k : ℕ) → 1 ≤ k → k < symbol_count file → slice_get names k ≡ Some (name_if file k)

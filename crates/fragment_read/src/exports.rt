@@ -5,7 +5,7 @@ ghost use Rattle.omos_model.specs.ElfFields.{symbol_count};
 ghost use Rattle.omos_model.specs.ElfFaults.{is_export, object_fault};
 ghost use Rattle.omos_model.specs.FragmentOf.{common_piece, exports_of, is_common};
 ghost use Rattle.omos_model.specs.FragmentParts.{max_entries, max_pieces};
-ghost use Rattle.fragment_read.specs.Numbered.{AreNames, ArePieceNumbers, export_of};
+ghost use Rattle.fragment_read.specs.Numbered.{AreSymbolNames, ArePieceNumbers, export_of};
 
 use crate::names::name_at;
 use crate::spots::spot_of;
@@ -27,7 +27,7 @@ fn export_of(
     requires there { k < symbol_count tables.now }
     requires defined { IsTrue (is_export tables.now k) }
     requires numbered { ArePieceNumbers tables.now numbers.now }
-    requires named { AreNames tables.now names.now }
+    requires named { AreSymbolNames tables.now names.now }
     requires common { is_common tables.now k ≡ true → common ≡ common_piece tables.now k }
     ensures { IfOk result (λ x. x ≡ export_of tables.now k) }
 {
@@ -48,7 +48,7 @@ pub(crate) fn exports(
 ) -> Result<Row<Export>, NoMemory>
     requires right { object_fault tables.now ≡ None }
     requires numbered { ArePieceNumbers tables.now numbers.now }
-    requires named { AreNames tables.now names.now }
+    requires named { AreSymbolNames tables.now names.now }
     requires first { first_common ≡ common_piece tables.now 1 }
     ensures { IfOk result (λ xs. xs ≡ exports_of tables.now) }
 {

@@ -9,7 +9,7 @@ ghost use Rattle.omos_model.specs.ElfFaults.{entries, entry_count, is_aim_of, is
 ghost use Rattle.omos_model.specs.ElfFaults.{object_fault};
 ghost use Rattle.omos_model.specs.FragmentOf.{aim_of, fixup_of};
 ghost use Rattle.omos_model.specs.Numbers.{numbers_from};
-ghost use Rattle.fragment_read.specs.Numbered.{AreNames, ArePieceNumbers, fixup_with};
+ghost use Rattle.fragment_read.specs.Numbered.{AreSymbolNames, ArePieceNumbers, fixup_with};
 
 use crate::names::name_at;
 use crate::spots::spot_of;
@@ -39,7 +39,7 @@ fn aim_of(
     requires right { object_fault tables.now ≡ None }
     requires there { IsTrue (is_aim_of tables.now k) }
     requires numbered { ArePieceNumbers tables.now numbers.now }
-    requires named { AreNames tables.now names.now }
+    requires named { AreSymbolNames tables.now names.now }
     ensures { IfOk result (λ aim. aim ≡ aim_of tables.now k) }
 {
     if k == 0 {
@@ -83,7 +83,7 @@ fn push_fixups(
     requires there { IsTrue (is_section tables.now i) }
     requires used { IsTrue (is_used_rela tables.now i) }
     requires numbered { ArePieceNumbers tables.now numbers.now }
-    requires named { AreNames tables.now names.now }
+    requires named { AreSymbolNames tables.now names.now }
     ensures { OnOk result (fixups.new ≡ fixups.old ++ filter_map (fixup_of tables.now)
         (map (λ j. (i, j)) (numbers_from 0 (entry_count tables.now i)))) }
 {
@@ -122,7 +122,7 @@ pub(crate) fn fixups(
 ) -> Result<Row<Fixup>, NoMemory>
     requires right { object_fault tables.now ≡ None }
     requires numbered { ArePieceNumbers tables.now numbers.now }
-    requires named { AreNames tables.now names.now }
+    requires named { AreSymbolNames tables.now names.now }
     ensures { IfOk result (λ xs. xs ≡ filter_map (fixup_of tables.now) (entries tables.now)) }
 {
     let mut fixups = Row::from_vec(Vec::with_capacity(alloc, count_of_entries(tables))?);

@@ -3,7 +3,7 @@
 ghost use Rattle.std.specs.Prelude.{◌≡◌, ◌<◌, ◌≤◌, None, IfOk, IsTrue};
 ghost use Rattle.omos_model.specs.ElfFields.{name_of, symbol_count};
 ghost use Rattle.omos_model.specs.ElfFaults.{has_name, object_fault};
-ghost use Rattle.fragment_read.specs.Numbered.{AreNames, name_if};
+ghost use Rattle.fragment_read.specs.Numbered.{AreSymbolNames, name_if};
 
 use crate::symbols::has_name;
 use elf_object::Tables;
@@ -34,7 +34,7 @@ pub(crate) fn name_at<'a>(tables: &Tables<'_>, names: &'a [Option<SymName>], k: 
     requires counted { 1 ≤ k }
     requires there { k < symbol_count tables.now }
     requires has { IsTrue (has_name tables.now k) }
-    requires named { AreNames tables.now names.now }
+    requires named { AreSymbolNames tables.now names.now }
     ensures { result.now ≡ name_of tables.now k }
 {
     let Some(name) = &names[k as usize] else {
@@ -47,7 +47,7 @@ pub(crate) fn name_at<'a>(tables: &Tables<'_>, names: &'a [Option<SymName>], k: 
 #[inline(never)]
 pub(crate) fn names(alloc: Global, tables: &Tables<'_>) -> Result<Row<Option<SymName>>, NoMemory>
     requires { object_fault tables.now ≡ None }
-    ensures { IfOk result (λ names. AreNames tables.now names) }
+    ensures { IfOk result (λ names. AreSymbolNames tables.now names) }
 {
     let mut names = Row::from_vec(Vec::with_capacity(alloc, tables.symbols() as usize)?);
     if tables.symbols() == 0 {

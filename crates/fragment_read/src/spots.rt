@@ -4,7 +4,7 @@ ghost use Rattle.std.specs.Prelude.{◌≡◌, ◌<◌, ◌≤◌, None, IsTrue,
 ghost use Rattle.omos_model.specs.ElfFields.{symbol_count};
 ghost use Rattle.omos_model.specs.ElfFaults.{object_fault};
 ghost use Rattle.omos_model.specs.FragmentOf.{common_piece, is_common, spot_of};
-ghost use Rattle.fragment_read.specs.Numbered.{ArePieceNumbers, is_placed};
+ghost use Rattle.fragment_read.specs.Numbered.{ArePieceNumbers, has_place};
 
 use elf_object::Tables;
 use elf_words::values::{SHN_ABS, SHN_COMMON};
@@ -15,7 +15,7 @@ pub(crate) fn spot_of(tables: &Tables<'_>, numbers: &[u32], k: u32, common: u32)
     requires right { object_fault tables.now ≡ None }
     requires counted { 1 ≤ k }
     requires there { k < symbol_count tables.now }
-    requires placed { IsTrue (is_placed tables.now k) }
+    requires placed { IsTrue (has_place tables.now k) }
     requires numbered { ArePieceNumbers tables.now numbers.now }
     requires common { is_common tables.now k ≡ true → common ≡ common_piece tables.now k }
     ensures { result ≡ spot_of tables.now k }

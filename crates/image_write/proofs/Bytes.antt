@@ -17,17 +17,17 @@ use Rattle.omos_model.specs.declared.mark.Target.TheVariants.{Inside, Fixed}
 use Rattle.omos_model.specs.declared.refusal.Refusal.TheVariants.{Overflow}
 use Rattle.link_model.specs.Field.{field_value}
 use Rattle.link_model.specs.ImageBytes.{address_of, byte_of, covers, field_byte, field_of, field_place, is_field_at, overflow_at, piece_byte, slot_address, slot_byte}
-use Rattle.link_model.specs.Layout.{group_begin, pieces_of, slots_begin, target_at}
+use Rattle.link_model.specs.Layout.{group_begin, program_pieces, slots_begin, target_at}
 use Rattle.link_model.specs.Plan.{Plan, first_in}
 use Rattle.link_model.specs.Program.{Parts, Reference, object_of, references}
 use Rattle.image_write.specs.declared.slots.SlotTable.{SlotTable}
 use Rattle.image_write.specs.Addresses.{address_in, slot_in, slots_byte}
-use Rattle.image_write.specs.Fields.{field_in, last_byte, overflow_in}
-use Rattle.image_write.specs.Groups.{file_size}
+use Rattle.image_write.specs.Fields.{field_number, last_byte, overflow_in}
+use Rattle.image_write.specs.Groups.{bytes_in_file}
 use Rattle.image_write.specs.Painted.{Painted}
 use Rattle.link_layout.specs.Pieces.{IsLawful, all_pieces, pieces_in}
-use Rattle.image_write.specs.Sections.{Placed, byte_at, first_byte, placed_in}
-use Rattle.image_write.specs.Standing.{LeafStands, LeavesStand, Stands}
+use Rattle.image_write.specs.Sections.{PlacedPiece, byte_at, first_byte, placed_in}
+use Rattle.image_write.specs.Standing.{LeafStands, LeavesStand, StandsInGroup}
 use Rattle.image_write.proofs.Lawful.{piece-bytes, tested}
 use Rattle.image_write.proofs.Sectioned.{placed-more}
 use Rattle.image_write.proofs.Slotted.{covers-below}
@@ -42,7 +42,7 @@ abbrev pub SlotsStand : Plan → ℕ → SlotTable → Type 0
 SlotsStand plan base table = (t : Target) → slot_in table t ≡ slot_address plan base t
 
 field-same : (plan : Plan) (base : ℕ) (table : SlotTable) → SlotsStand plan base table → (r : Reference)
-    → field_in plan.places table base r ≡ field_of plan base r
+    → field_number plan.places table base r ≡ field_of plan base r
 field-same plan base table h r =
     λ i. field_value r.fixup.kind (address-same plan base (target_at r.landing) i) r.fixup.addend (base + field_place plan r) (h (target_at r.landing) i)
 
@@ -74,17 +74,17 @@ find-agree p q [] h = refl
 find-agree p q (x ∷ xs) h =
     λ i. if All-head (λ y. p y ≡ q y) x xs h i then Some x else find-agree p q xs (All-tail (λ y. p y ≡ q y) x xs h) i
 
-zeros-begin : (g : Group) (parts : Parts) → is_zeros g ≡ true → group_begin g parts ≡ file_size parts
+zeros-begin : (g : Group) (parts : Parts) → is_zeros g ≡ true → group_begin g parts ≡ bytes_in_file parts
 zeros-begin Code parts h = cc
 zeros-begin Consts parts h = cc
 zeros-begin Vars parts h = cc
 zeros-begin Zeros parts h = refl
 
 -- below the file's end a piece has a byte where its size says so
-abbrev Agrees : ℕ → Placed → Type 0
+abbrev Agrees : ℕ → PlacedPiece → Type 0
 Agrees x y = covers y.0 (length y.1.bytes) x ≡ covers y.0 y.1.size x
 
-agrees : (parts : Parts) (x : ℕ) → x < file_size parts → (y : Placed) → Stands parts y → is_piece y.1 ≡ true → Agrees x y
+agrees : (parts : Parts) (x : ℕ) → x < bytes_in_file parts → (y : PlacedPiece) → StandsInGroup parts y → is_piece y.1 ≡ true → Agrees x y
 agrees parts x lt y h p = go (is_zeros y.1.group) refl where
   go : (b : Bool) → is_zeros y.1.group ≡ b → Agrees x y
   go true e =
@@ -95,16 +95,16 @@ agrees parts x lt y h p = go (is_zeros y.1.group) refl where
   go false e =
       ap (λ n. covers y.0 n x) (piece-bytes y.1 p ∙ (λ i. if e i then 0 else y.1.size))
 
-leaf-agrees : (parts : Parts) (x : ℕ) → x < file_size parts → (l : List ℕ × Entry) → LeafStands parts l → IsLawful l.1
+leaf-agrees : (parts : Parts) (x : ℕ) → x < bytes_in_file parts → (l : List ℕ × Entry) → LeafStands parts l → IsLawful l.1
     → All (Agrees x) (zip l.0 (pieces_in l.1))
 leaf-agrees parts x lt l h lawful k d within =
     let n = h.count in
     let m = length-zip l.0 (pieces_in l.1) in
     let e = get_or-zip l.0 (pieces_in l.1) k d (omega (arith, m)) (omega (arith, m)) in
     subst (Agrees x) (sym e)
-    (agrees parts x lt _ (subst (Stands parts) e (h.each k d within)) ((tested (object_of l.1) lawful).pieces k d.1 (omega (arith, m))))
+    (agrees parts x lt _ (subst (StandsInGroup parts) e (h.each k d within)) ((tested (object_of l.1) lawful).pieces k d.1 (omega (arith, m))))
 
-all-agree : (parts : Parts) (x : ℕ) → x < file_size parts → (places : List (List ℕ)) (leaves : List Entry)
+all-agree : (parts : Parts) (x : ℕ) → x < bytes_in_file parts → (places : List (List ℕ)) (leaves : List Entry)
     → length places ≡ length leaves → All (LeafStands parts) (zip places leaves) → All IsLawful leaves
     → All (Agrees x) (placed_in places leaves)
 all-agree parts x lt [] [] n h lawful = All-nil (Agrees x)
@@ -118,7 +118,7 @@ all-agree parts x lt (row ∷ places) (leaf ∷ leaves) n h lawful =
     (placed-more places leaves row leaf here.count)
     (All-append (Agrees x) (zip row (pieces_in leaf)) (placed_in places leaves) first rest)
 
-first-same : (plan : Plan) (leaves : List Entry) (x : ℕ) → x < file_size plan.parts → pieces_of plan.parts ≡ all_pieces leaves
+first-same : (plan : Plan) (leaves : List Entry) (x : ℕ) → x < bytes_in_file plan.parts → program_pieces plan.parts ≡ all_pieces leaves
     → LeavesStand plan.parts plan.places leaves → All IsLawful leaves
     → first_byte (placed_in plan.places leaves) x ≡ piece_byte plan x
 first-same plan leaves x lt same h lawful =
@@ -140,8 +140,8 @@ get_or-numbers start (suc n) (suc k) d h =
     let e = get_or-numbers (start + 1) n k d (omega arith) in omega (arith, e)
 
 byte-same : (plan : Plan) (base : ℕ) (table : SlotTable) (leaves : List Entry) → SlotsStand plan base table
-    → pieces_of plan.parts ≡ all_pieces leaves → LeavesStand plan.parts plan.places leaves → All IsLawful leaves
-    → (x : ℕ) → x < file_size plan.parts
+    → program_pieces plan.parts ≡ all_pieces leaves → LeavesStand plan.parts plan.places leaves → All IsLawful leaves
+    → (x : ℕ) → x < bytes_in_file plan.parts
     → unwrap_or (option_or (last_byte plan.places table base (references plan.parts) x)
     (option_or (slots_byte plan.places base plan.slots (slots_begin plan.parts) (length plan.slots) x)
     (first_byte (placed_in plan.places leaves) x))) 0
@@ -152,14 +152,14 @@ byte-same plan base table leaves slots same h lawful x lt =
     (option_or (last-same plan base table slots x i) (option_or (slots-same plan base x i) (first-same plan leaves x lt same h lawful i))) 0
 
 pub body-bytes : (plan : Plan) (base : ℕ) (table : SlotTable) (leaves : List Entry) (new : List ℕ) → SlotsStand plan base table
-    → pieces_of plan.parts ≡ all_pieces leaves → LeavesStand plan.parts plan.places leaves → All IsLawful leaves
+    → program_pieces plan.parts ≡ all_pieces leaves → LeavesStand plan.parts plan.places leaves → All IsLawful leaves
     → Painted new (λ x.
     option_or (last_byte plan.places table base (references plan.parts) x)
     (option_or (slots_byte plan.places base plan.slots (slots_begin plan.parts) (length plan.slots) x)
-    (first_byte (placed_in plan.places leaves) x))) (replicate (file_size plan.parts) 0)
-    → new ≡ map (byte_of plan base) (numbers_from 0 (file_size plan.parts))
+    (first_byte (placed_in plan.places leaves) x))) (replicate (bytes_in_file plan.parts) 0)
+    → new ≡ map (byte_of plan base) (numbers_from 0 (bytes_in_file plan.parts))
 body-bytes plan base table leaves new slots same h lawful painted =
-    let n = file_size plan.parts in
+    let n = bytes_in_file plan.parts in
     let zeros : length (replicate n 0) ≡ n = length-replicate n 0 in
     let numbers = length-numbers 0 n in
     let size = painted.size in

@@ -14,8 +14,8 @@ use Rattle.link_model.specs.Program.{references}
 use Rattle.link_model.specs.declared.groups.Groups.{Groups}
 use Rattle.image_write.specs.declared.slots.SlotTable.{SlotTable}
 use Rattle.image_write.specs.Addresses.{IsTable}
-use Rattle.image_write.specs.Filled.{IsFilled, filled_byte, refusal_in}
-use Rattle.image_write.specs.Groups.{file_size}
+use Rattle.image_write.specs.Filled.{IsComplete, filled_byte, first_overflow}
+use Rattle.image_write.specs.Groups.{bytes_in_file}
 use Rattle.image_write.specs.Headers.{page_in}
 use Rattle.image_write.specs.Painted.{Painted}
 use Rattle.image_write.specs.Plans.{plan_with}
@@ -56,15 +56,15 @@ pub written-ok : (x : Groups) (m : Module) (l : Placing) (table : SlotTable) (ba
     → IsSound x m l → IsTable table l.slots (base + x.slots)
     → entry ≡ entry_in l.places base l.entry → page ≡ page_in x base entry
     → items ≡ page ++ zeros x.begins.zeros → head ≡ length page → take head new ≡ take head items
-    → IsFilled (plan_with m l) base table m.leaves (drop head new) (drop head items)
+    → IsComplete (plan_with m l) base table m.leaves (drop head new) (drop head items)
     → image_bytes (plan_with m l) base ≡ Ok new
 unfolding zeros
 written-ok x m l table base entry head items new page sound h en pn bn hn kept filled =
     let plan = plan_with m l in
     let slots = slots-stand x m l table base sound h in
-    let old : drop head items ≡ replicate (file_size plan.parts) 0 =
+    let old : drop head items ≡ replicate (bytes_in_file plan.parts) 0 =
     rest-zeros items page head x.begins.zeros bn hn ∙ ap (λ n. replicate n 0) (sound.groups.begins Zeros) in
-    let body : drop head new ≡ map (byte_of plan base) (numbers_from 0 (file_size plan.parts)) =
+    let body : drop head new ≡ map (byte_of plan base) (numbers_from 0 (bytes_in_file plan.parts)) =
     body-bytes plan base table m.leaves (drop head new) slots sound.same sound.stand sound.lawful
     (subst (λ (xs : List ℕ). Painted (drop head new) (filled_byte plan base table m.leaves) xs) old filled.painted) in
     let front : take head new ≡ header_page plan base =
@@ -74,7 +74,7 @@ written-ok x m l table base entry head items new page sound h en pn bn hn kept f
     (sym (take-append-drop head new) ∙ (λ i. front i ++ body i))
 
 pub written-err : (x : Groups) (m : Module) (l : Placing) (table : SlotTable) (base : ℕ) (y : Refusal)
-    → IsSound x m l → IsTable table l.slots (base + x.slots) → refusal_in (plan_with m l) base table m.leaves ≡ Some y
+    → IsSound x m l → IsTable table l.slots (base + x.slots) → first_overflow (plan_with m l) base table m.leaves ≡ Some y
     → image_bytes (plan_with m l) base ≡ Err y
 written-err x m l table base y sound h some =
     let plan = plan_with m l in

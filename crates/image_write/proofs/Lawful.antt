@@ -7,7 +7,7 @@ use Rattle.std.proofs.lemmas.List.Elements.{All-weaker}
 use Rattle.std.proofs.lemmas.List.Sums.{AllPass-from_list_all}
 use Rattle.omos_model.specs.FragmentParts.{FragmentParts, IsFragment, are_distinct, is_fixup, is_in_bounds, is_piece, is_spot, is_zeros, max_entries, max_pieces}
 use Rattle.omos_model.specs.declared.fragment.Piece.{Piece}
-use Rattle.link_layout.specs.Pieces.{AreBounded, IsBounded}
+use Rattle.link_layout.specs.Pieces.{AreBounded, IsBoundedPiece}
 
 pub record IsTested (f : FragmentParts) : Type 0 where
   pub count : length f.pieces ≤ max_pieces
@@ -31,13 +31,13 @@ tested f h =
       fixups = AllPass-from_list_all (is_fixup f.pieces) f.fixups six.1;
     }
 
-one-bounded : (p : Piece) → is_piece p ≡ true → IsBounded p
+one-bounded : (p : Piece) → is_piece p ≡ true → IsBoundedPiece p
 one-bounded p h = search (rules, tests)
 
 pub bounded : (f : FragmentParts) → IsFragment f → AreBounded f.pieces
 bounded f h =
     let t = tested f h in
-    record { count = t.count; each = All-weaker (λ p. is_piece p ≡ true) IsBounded one-bounded f.pieces t.pieces }
+    record { count = t.count; each = All-weaker (λ p. is_piece p ≡ true) IsBoundedPiece one-bounded f.pieces t.pieces }
 
 pub piece-bytes : (p : Piece) → is_piece p ≡ true → length p.bytes ≡ (if is_zeros p.group then 0 else p.size)
 piece-bytes p h = search (rules, tests)

@@ -26,7 +26,7 @@ use Rattle.link_model.specs.Program.{Part, Reference, reference_of, references_i
 use Rattle.link_layout.proofs.Parts.{first_in-append}
 use Rattle.image_write.specs.declared.slots.SlotTable.{SlotTable}
 use Rattle.image_write.specs.Addresses.{address_in, slot_in}
-use Rattle.image_write.specs.Fields.{IsPatched, byte_in, field_in, field_place_in, last_byte, overflow_in, references_of}
+use Rattle.image_write.specs.Fields.{IsPatched, byte_in, field_number, field_place_in, last_byte, overflow_in, references_of}
 use Rattle.image_write.specs.Painted.{Painted, run_at}
 use Rattle.link_layout.specs.Slots.{fixups_in}
 use Rattle.image_write.proofs.Painting.{either, painted-as, painted-run, painted-then}
@@ -53,13 +53,13 @@ chosen true f x = refl
 chosen false f x = refl
 
 module _ (places : List (List ℕ)) (table : SlotTable) (base : ℕ) where
-  pub patched-one : (r : Reference) (field : ℕ) (new old : List ℕ) → field_in places table base r ≡ Some field
+  pub patched-one : (r : Reference) (field : ℕ) (new old : List ℕ) → field_number places table base r ≡ Some field
       → field_place_in places r + width r.fixup.kind ≤ length old
       → new ≡ with_number (width r.fixup.kind) (field_place_in places r) field old
       → IsPatched places table base (r ∷ []) new old
   patched-one r field new old e fits en =
       record {
-        fit = no_overflow (field_in places table base r) (Overflow r.leaf r.number) field e;
+        fit = no_overflow (field_number places table base r) (Overflow r.leaf r.number) field e;
         painted = painted-as (last_byte places table base (r ∷ [])) run (λ x _. same x);
       } where
         w : ℕ

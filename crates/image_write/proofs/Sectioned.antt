@@ -12,7 +12,7 @@ use Rattle.omos_model.specs.declared.fragment.Piece.{Piece}
 use Rattle.link_model.specs.ImageBytes.{covers}
 use Rattle.image_write.specs.Painted.{Painted, run_at}
 use Rattle.link_layout.specs.Pieces.{all_pieces, pieces_in}
-use Rattle.image_write.specs.Sections.{AreInside, IsInside, IsLeafInside, Placed, byte_at, first_byte, placed_in}
+use Rattle.image_write.specs.Sections.{AreInside, IsInside, IsLeafInside, PlacedPiece, byte_at, first_byte, placed_in}
 use Rattle.image_write.proofs.Painting.{either, painted-as, painted-nothing, painted-then}
 
 -- ---- two lists side by side
@@ -42,12 +42,12 @@ pick : {X Y : Type 0} (b : Bool) (f : X → Y) (y : X) (r : Option X)
 pick true f y r = refl
 pick false f y r = refl
 
-first_byte-next : (y : Placed) (ys : List Placed) (x : ℕ)
+first_byte-next : (y : PlacedPiece) (ys : List PlacedPiece) (x : ℕ)
     → option_or (run_at y.0 y.1.bytes x) (first_byte ys x) ≡ first_byte (y ∷ ys) x
 first_byte-next y ys x =
     pick (covers y.0 (length y.1.bytes) x) (byte_at x) y (find (λ z. covers z.0 (length z.1.bytes) x) ys)
 
-first_byte-append : (ys zs : List Placed) (x : ℕ)
+first_byte-append : (ys zs : List PlacedPiece) (x : ℕ)
     → option_or (first_byte ys x) (first_byte zs x) ≡ first_byte (ys ++ zs) x
 first_byte-append ys zs x =
     either (byte_at x) (find (λ z. covers z.0 (length z.1.bytes) x) ys) (find (λ z. covers z.0 (length z.1.bytes) x) zs)

@@ -19,11 +19,12 @@ use Rattle.link_model.specs.declared.groups.Groups.{Groups}
 use Rattle.image_write.specs.Groups.{AreGroups}
 use Rattle.link_layout.specs.Pieces.{AreBounded, IsLawful, pieces_in}
 use Rattle.image_write.specs.Plans.{plan_with}
-use Rattle.image_write.specs.Sound.{IsLaid, IsSound}
+use Rattle.image_write.specs.Sound.{IsLayoutOf, IsSound}
 use Rattle.image_write.specs.Standing.{LeavesStand}
 use Rattle.image_write.proofs.Inside.{all-inside, all-low, fields-inside, slots-inside}
 use Rattle.image_write.proofs.Lawful.{bounded}
 use Rattle.image_write.proofs.Standing.{leaves-stand}
+use Rattle.link_model.specs.Layout.{program_pieces}
 
 -- ---- the plan
 
@@ -47,7 +48,7 @@ pub record IsPlanned (m : Module) (l : Placing) : Type 0 where
   pub placing : l ≡ placing_of (program_plan m)
   pub pages : all_pages (parts_of_module m) ≤ 2047
 
-is-planned : (m : Module) (l : Placing) → IsLaid m l → IsPlanned m l
+is-planned : (m : Module) (l : Placing) → IsLayoutOf m l → IsPlanned m l
 is-planned m l laid =
     let parts = parts_of_module m in
     let split = unrefused (plan_refusal parts (found m.names) m.start) (program_plan m) laid.0 laid.1 in
@@ -77,7 +78,7 @@ groups-stand x parts is =
 
 -- ---- the module
 
-pub sound : (law : BoundsLaw) (x : Groups) (m : Module) (l : Placing) → IsModule m → IsLaid m l
+pub sound : (law : BoundsLaw) (x : Groups) (m : Module) (l : Placing) → IsModule m → IsLayoutOf m l
     → x ≡ l.groups → All IsLawful m.leaves → IsSound x m l
 sound law x m l ism laid groups lawful =
     let parts = parts_of_module m in

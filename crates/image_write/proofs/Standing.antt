@@ -8,11 +8,11 @@ use Rattle.omos_model.specs.declared.fragment.Group.{Group}
 use Rattle.omos_model.specs.declared.fragment.Group.TheVariants.{Code, Consts, Vars, Zeros}
 use Rattle.omos_model.specs.declared.fragment.Piece.{Piece}
 use Rattle.omos_model.specs.declared.mark.Landing.{Landing}
-use Rattle.link_model.specs.Layout.{aligned, begin_of, end_of, end_with, pieces_of, place_of, places_behind, places_from, same_group}
+use Rattle.link_model.specs.Layout.{aligned, begin_of, end_of, end_with, program_pieces, place_of, places_behind, places_from, same_group}
 use Rattle.link_model.specs.Module.{part_with}
 use Rattle.link_model.specs.Program.{Parts}
-use Rattle.link_layout.specs.Pieces.{AreBounded, IsBounded, all_pieces, pieces_in}
-use Rattle.image_write.specs.Standing.{LeafStands, LeavesStand, Stands}
+use Rattle.link_layout.specs.Pieces.{AreBounded, IsBoundedPiece, all_pieces, pieces_in}
+use Rattle.image_write.specs.Standing.{LeafStands, LeavesStand, StandsInGroup}
 
 aligned-above : (align offset : ℕ) → 1 ≤ align → offset ≤ aligned align offset
 aligned-above align offset h = omega arith
@@ -28,47 +28,47 @@ one-grows true e f h = h
 one-grows false e f h = omega arith
 
 -- a group never shrinks
-pub ends-grow : (g : Group) (ps : List Piece) (e : ℕ) → All IsBounded ps → e ≤ fold (end_with g) e ps
+pub ends-grow : (g : Group) (ps : List Piece) (e : ℕ) → All IsBoundedPiece ps → e ≤ fold (end_with g) e ps
 ends-grow g [] e h = omega arith
 ends-grow g (p ∷ ps) e h =
-    let bounded = All-head IsBounded p ps h in
+    let bounded = All-head IsBoundedPiece p ps h in
     let up = aligned-above p.align e bounded.some in
     let one : e ≤ end_with g e p = one-grows (same_group g p.group) e (begin_of e p + p.size) (omega arith) in
-    let rest = ends-grow g ps (end_with g e p) (All-tail IsBounded p ps h) in
+    let rest = ends-grow g ps (end_with g e p) (All-tail IsBoundedPiece p ps h) in
     omega (arith, one, rest)
 
-one-stands : (parts : Parts) (before after : List Piece) (p : Piece) → pieces_of parts ≡ before ++ (p ∷ after)
-    → IsBounded p → All IsBounded after → Stands parts (place_of parts before p, p)
+one-stands : (parts : Parts) (before after : List Piece) (p : Piece) → program_pieces parts ≡ before ++ (p ∷ after)
+    → IsBoundedPiece p → All IsBoundedPiece after → StandsInGroup parts (place_of parts before p, p)
 one-stands parts before after p same bounded rest =
     let g = p.group in
     let end = end_of g before in
     let here : end_with g end p ≡ begin_of end p + p.size = ap (λ b. cond b (begin_of end p + p.size) end) (same_group-refl g) in
-    let all : end_of g (pieces_of parts) ≡ fold (end_with g) (end_with g end p) after =
+    let all : end_of g (program_pieces parts) ≡ fold (end_with g) (end_with g end p) after =
     ap (end_of g) same ∙ fold-append (end_with g) 0 before (p ∷ after) in
     let grown = ends-grow g after (end_with g end p) rest in
     record { from = omega arith; to = omega (arith, here, all, grown) }
 
-leaf-stands : (parts : Parts) (before ps after : List Piece) → pieces_of parts ≡ before ++ (ps ++ after)
-    → All IsBounded ps → All IsBounded after
-    → (length (places_behind parts before ps) ≡ length ps) × All (Stands parts) (zip (places_behind parts before ps) ps)
-leaf-stands parts before [] after same h rest = (refl, All-nil (Stands parts))
+leaf-stands : (parts : Parts) (before ps after : List Piece) → program_pieces parts ≡ before ++ (ps ++ after)
+    → All IsBoundedPiece ps → All IsBoundedPiece after
+    → (length (places_behind parts before ps) ≡ length ps) × All (StandsInGroup parts) (zip (places_behind parts before ps) ps)
+leaf-stands parts before [] after same h rest = (refl, All-nil (StandsInGroup parts))
 leaf-stands parts before (p ∷ ps) after same h rest =
-    let tail = All-tail IsBounded p ps h in
+    let tail = All-tail IsBoundedPiece p ps h in
     let next = leaf-stands parts (before ++ p ∷ []) ps after (same ∙ sym (append_assoc before (p ∷ []) (ps ++ after))) tail rest in (
       ap suc next.0,
-      All-cons (Stands parts) (place_of parts before p, p) (zip (places_behind parts (before ++ p ∷ []) ps) ps)
-          (one-stands parts before (ps ++ after) p same (All-head IsBounded p ps h) (All-append IsBounded ps after tail rest)) next.1,
+      All-cons (StandsInGroup parts) (place_of parts before p, p) (zip (places_behind parts (before ++ p ∷ []) ps) ps)
+          (one-stands parts before (ps ++ after) p same (All-head IsBoundedPiece p ps h) (All-append IsBoundedPiece ps after tail rest)) next.1,
     )
 
-all-bounded : (leaves : List Entry) → All (λ leaf. AreBounded (pieces_in leaf)) leaves → All IsBounded (all_pieces leaves)
-all-bounded [] h = All-nil IsBounded
+all-bounded : (leaves : List Entry) → All (λ leaf. AreBounded (pieces_in leaf)) leaves → All IsBoundedPiece (all_pieces leaves)
+all-bounded [] h = All-nil IsBoundedPiece
 all-bounded (leaf ∷ leaves) h =
-    All-append IsBounded (pieces_in leaf) (all_pieces leaves)
+    All-append IsBoundedPiece (pieces_in leaf) (all_pieces leaves)
     (All-head (λ x. AreBounded (pieces_in x)) leaf leaves h).each
     (all-bounded leaves (All-tail (λ x. AreBounded (pieces_in x)) leaf leaves h))
 
 pub leaves-stand : (parts : Parts) (before : List Piece) (leaves : List Entry) (landings : List (List Landing))
-    → length landings ≡ length leaves → pieces_of parts ≡ before ++ all_pieces leaves
+    → length landings ≡ length leaves → program_pieces parts ≡ before ++ all_pieces leaves
     → All (λ leaf. AreBounded (pieces_in leaf)) leaves
     → LeavesStand parts (places_from parts before (map part_with (zip leaves landings))) leaves
 leaves-stand parts before [] [] n same h = record { count = refl; each = All-nil (LeafStands parts) }

@@ -15,12 +15,12 @@ use Rattle.image_write.specs.declared.slots.SlotTable.{SlotTable}
 abbrev pub row_in : List (List ℕ) → ℕ → List ℕ
 row_in places leaf = unwrap_or (slice_get places leaf) []
 
-abbrev pub place_at : List ℕ → ℕ → ℕ
-place_at row piece = unwrap_or (slice_get row piece) 0
+abbrev pub place_in_row : List ℕ → ℕ → ℕ
+place_in_row row piece = unwrap_or (slice_get row piece) 0
 
 -- where a piece of a leaf stands
 abbrev pub place_in : List (List ℕ) → ℕ → ℕ → ℕ
-place_in places leaf piece = place_at (row_in places leaf) piece
+place_in places leaf piece = place_in_row (row_in places leaf) piece
 
 -- no piece stands higher
 abbrev pub max_place : ℕ

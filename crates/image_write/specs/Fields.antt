@@ -41,19 +41,19 @@ pub record AreFieldsInside (size : ℕ) (places : List (List ℕ)) (leaves : Lis
 
 module _ (places : List (List ℕ)) (table : SlotTable) (base : ℕ) where
   -- the number that the field gets, if the value fits
-  abbrev pub field_in : Reference → Option ℕ
-  field_in r =
+  abbrev pub field_number : Reference → Option ℕ
+  field_number r =
       let target = target_at r.landing in
       field_value r.fixup.kind (address_in places base target) r.fixup.addend
       (base + field_place_in places r) (slot_in table target)
 
   -- L13 where it doesn't
   abbrev pub overflow_in : Reference → Option Refusal
-  overflow_in r = if is_some (field_in r) then None else Some (Overflow r.leaf r.number)
+  overflow_in r = if is_some (field_number r) then None else Some (Overflow r.leaf r.number)
 
   abbrev pub byte_in : ℕ → Reference → ℕ
   byte_in x r =
-      slice_index (little_bytes (width r.fixup.kind) (unwrap_or (field_in r) 0))
+      slice_index (little_bytes (width r.fixup.kind) (unwrap_or (field_number r) 0))
       (x - field_place_in places r)
 
   -- of the last of these references whose field has a byte there

@@ -22,14 +22,14 @@ module _ (plan : Plan) (base : ℕ) (table : SlotTable) (leaves : List Entry) wh
       (first_byte (placed_in plan.places leaves) x))
 
   -- the reason for which a value doesn't fit, if there is one
-  abbrev pub refusal_in : Option Refusal
-  refusal_in = first_in (overflow_in plan.places table base) (references plan.parts)
+  abbrev pub first_overflow : Option Refusal
+  first_overflow = first_in (overflow_in plan.places table base) (references plan.parts)
 
   -- all values fit, and all bytes are written
-  pub record IsFilled (new old : List ℕ) : Type 0 where
-    pub fit : refusal_in ≡ None
+  pub record IsComplete (new old : List ℕ) : Type 0 where
+    pub fit : first_overflow ≡ None
     pub painted : Painted new filled_byte old
 
   -- the same, or the first value that doesn't fit is refused
   abbrev pub Fills : Result (Unit {0}) Refusal → List ℕ → List ℕ → Type 0
-  Fills result new old = MatchResult result (λ _. IsFilled new old) (λ x. refusal_in ≡ Some x)
+  Fills result new old = MatchResult result (λ _. IsComplete new old) (λ x. first_overflow ≡ Some x)

@@ -13,5 +13,5 @@ pub record AreGroups (x : Groups) (parts : Parts) : Type 0 where
   pub slots : x.slots ≡ slots_begin parts
 
 -- how many bytes the pages of Code, Consts and Vars have
-abbrev pub file_size : Parts → ℕ
-file_size parts = group_begin Zeros parts
+abbrev pub bytes_in_file : Parts → ℕ
+bytes_in_file parts = group_begin Zeros parts

@@ -7,18 +7,18 @@ use Rattle.omos_model.specs.declared.fragment.Piece.{Piece}
 use Rattle.link_model.specs.ImageBytes.{covers}
 use Rattle.link_layout.specs.Pieces.{all_pieces, pieces_in}
 
-abbrev pub Placed : Type 0
-Placed = ℕ × Piece
+abbrev pub PlacedPiece : Type 0
+PlacedPiece = ℕ × Piece
 
-abbrev pub byte_at : ℕ → Placed → ℕ
+abbrev pub byte_at : ℕ → PlacedPiece → ℕ
 byte_at x y = slice_index y.1.bytes (x - y.0)
 
 -- of the first of these pieces that has a byte there
-abbrev pub first_byte : List Placed → ℕ → Option ℕ
+abbrev pub first_byte : List PlacedPiece → ℕ → Option ℕ
 first_byte placed x = option_map (byte_at x) (find (λ y. covers y.0 (length y.1.bytes) x) placed)
 
 -- the bytes of a piece, if it has some, lie in so many
-pub record IsInside (size : ℕ) (y : Placed) : Type 0 where
+pub record IsInside (size : ℕ) (y : PlacedPiece) : Type 0 where
   pub inside : 0 < length y.1.bytes → y.0 + length y.1.bytes ≤ size
 
 -- each piece of a leaf has its place, and lies in so many bytes
@@ -32,5 +32,5 @@ pub record AreInside (size : ℕ) (places : List (List ℕ)) (leaves : List Entr
   pub each : All (IsLeafInside size) (zip places leaves)
 
 -- the pieces of leaves with their places
-abbrev pub placed_in : List (List ℕ) → List Entry → List Placed
+abbrev pub placed_in : List (List ℕ) → List Entry → List PlacedPiece
 placed_in places leaves = zip (flat_map (λ row. row) places) (all_pieces leaves)

@@ -1,36 +1,36 @@
 -- What holds of a module, its layout and its groups, from which all bounds follow.
 use Rattle.std.specs.Prelude.{◌≡◌, ◌+◌, ◌*◌, ◌^◌, ◌≤◌, All, length, Ok}
 use Rattle.omos_model.specs.declared.fragment.Group.{Group}
-use Rattle.link_model.specs.Layout.{pieces_of, slots_begin}
+use Rattle.link_model.specs.Layout.{program_pieces, slots_begin}
 use Rattle.link_model.specs.Module.{Module, Placing, parts_of_module, placing_of, plan_of_module}
 use Rattle.link_model.specs.Plan.{Plan}
 use Rattle.link_model.specs.declared.groups.Groups.{Groups}
 use Rattle.image_write.specs.Addresses.{AreLow}
 use Rattle.link_model.specs.Groups.{bytes_of}
 use Rattle.image_write.specs.Fields.{AreFieldsInside}
-use Rattle.image_write.specs.Groups.{AreGroups, file_size}
+use Rattle.image_write.specs.Groups.{AreGroups, bytes_in_file}
 use Rattle.link_layout.specs.Pieces.{IsLawful, all_pieces}
 use Rattle.image_write.specs.Plans.{plan_with}
 use Rattle.image_write.specs.Sections.{AreInside}
 use Rattle.image_write.specs.Standing.{LeavesStand}
 
 -- the layout is that of the module's plan
-abbrev pub IsLaid : Module → Placing → Type 0
-IsLaid m l = (plan : Plan) × (plan_of_module m ≡ Ok plan) × (l ≡ placing_of plan)
+abbrev pub IsLayoutOf : Module → Placing → Type 0
+IsLayoutOf m l = (plan : Plan) × (plan_of_module m ≡ Ok plan) × (l ≡ placing_of plan)
 
 -- the module and its layout make the plan, and all that they place lies in the file
 pub record IsSound (x : Groups) (m : Module) (l : Placing) : Type 0 where
   pub plan : plan_of_module m ≡ Ok (plan_with m l)
   pub groups : AreGroups x (parts_of_module m)
   pub near : (g : Group) → bytes_of x.begins g ≤ 2 ^ 52
-  pub small : file_size (parts_of_module m) ≤ 2 ^ 23
+  pub small : bytes_in_file (parts_of_module m) ≤ 2 ^ 23
   pub leaves : length m.leaves ≤ 256
   pub count : length m.landings ≡ length m.leaves
   pub few : length l.slots ≤ 2 ^ 20
   pub lawful : All IsLawful m.leaves
-  pub same : pieces_of (parts_of_module m) ≡ all_pieces m.leaves
+  pub same : program_pieces (parts_of_module m) ≡ all_pieces m.leaves
   pub stand : LeavesStand (parts_of_module m) l.places m.leaves
   pub low : AreLow l.places
-  pub pieces : AreInside (file_size (parts_of_module m)) l.places m.leaves
-  pub slots : slots_begin (parts_of_module m) + 8 * length l.slots ≤ file_size (parts_of_module m)
-  pub fields : AreFieldsInside (file_size (parts_of_module m)) l.places m.leaves
+  pub pieces : AreInside (bytes_in_file (parts_of_module m)) l.places m.leaves
+  pub slots : slots_begin (parts_of_module m) + 8 * length l.slots ≤ bytes_in_file (parts_of_module m)
+  pub fields : AreFieldsInside (bytes_in_file (parts_of_module m)) l.places m.leaves

@@ -12,17 +12,17 @@ use Rattle.link_model.specs.Module.{Module, plan_of_module}
 use Rattle.link_model.specs.Plan.{Plan}
 use Rattle.image_write.specs.declared.slots.SlotTable.{SlotTable}
 use Rattle.image_write.specs.Addresses.{address_in}
-use Rattle.image_write.specs.Filled.{IsFilled, refusal_in}
+use Rattle.image_write.specs.Filled.{IsComplete, first_overflow}
 
 -- the image of the module's plan at the base, or its refusal
-abbrev pub IsImage : Module → ℕ → Result (List ℕ) Refusal → Type 0
-IsImage m base image =
+abbrev pub IsPlansImage : Module → ℕ → Result (List ℕ) Refusal → Type 0
+IsPlansImage m base image =
     (plan : Plan) × (plan_of_module m ≡ Ok plan) × (image_bytes plan base ≡ image)
 
 -- the call answers the image, or refuses for the image's reason
 abbrev pub Writes : Module → ℕ → Result (List ℕ) (Fault Refusal) → Type 0
 Writes m base result =
-    MatchFault result (λ bytes. IsImage m base (Ok bytes)) (λ x. IsImage m base (Err x))
+    MatchFault result (λ bytes. IsPlansImage m base (Ok bytes)) (λ x. IsPlansImage m base (Err x))
 
 -- the start's address, or 0 where there is none
 abbrev pub entry_in : List (List ℕ) → ℕ → Option Target → ℕ
@@ -35,5 +35,5 @@ FillsBehind head plan base table leaves result new old =
     MatchResult result
     (λ _.
     (take head new ≡ take head old)
-    × IsFilled plan base table leaves (drop head new) (drop head old))
-    (λ x. refusal_in plan base table leaves ≡ Some x)
+    × IsComplete plan base table leaves (drop head new) (drop head old))
+    (λ x. first_overflow plan base table leaves ≡ Some x)

@@ -3,7 +3,7 @@
 ghost use Rattle.std.specs.Prelude.{◌≡◌, ◌+◌, ◌≤◌, drop, length, take};
 ghost use Rattle.link_model.specs.Module.{parts_of_module};
 ghost use Rattle.image_write.specs.Addresses.{max_place};
-ghost use Rattle.image_write.specs.Groups.{file_size};
+ghost use Rattle.image_write.specs.Groups.{bytes_in_file};
 ghost use Rattle.image_write.specs.Plans.{plan_with};
 ghost use Rattle.image_write.specs.Sound.{IsSound};
 ghost use Rattle.image_write.specs.Written.{FillsBehind};
@@ -26,7 +26,7 @@ pub fn fill(
 ) -> Result<(), Refusal>
     requires sound { IsSound groups.now evaluated.now layout.now }
     requires size { length bytes.old.items
-        ≡ head + file_size (parts_of_module evaluated.now) }
+        ≡ head + bytes_in_file (parts_of_module evaluated.now) }
     requires places { ground.now.places.now ≡ layout.now.places }
     requires base { ground.now.base ≤ max_place }
     ensures { FillsBehind head (plan_with evaluated.now layout.now) ground.now.base

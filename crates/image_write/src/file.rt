@@ -2,7 +2,7 @@
 
 ghost use Rattle.std.specs.Prelude.{◌≡◌, ◌+◌, ◌*◌, ◌%◌, ◌^◌, ◌≤◌};
 ghost use Rattle.image_write.specs.Addresses.{AreLow, max_place};
-ghost use Rattle.image_write.specs.Sound.{IsLaid};
+ghost use Rattle.image_write.specs.Sound.{IsLayoutOf};
 ghost use Rattle.image_write.specs.Written.{Writes, entry_in};
 
 use crate::addresses::address_in;
@@ -40,7 +40,7 @@ pub fn write(
     layout: &Layout,
     base: u64,
 ) -> Result<Bytes, Fault<Refusal>>
-    requires laid { IsLaid evaluated.now layout.now }
+    requires laid { IsLayoutOf evaluated.now layout.now }
     requires page { base % 4096 ≡ 0 }
     requires range { base + 4096 * layout.now.pages ≤ 2 ^ 47 }
     ensures written { Writes evaluated.now base result }

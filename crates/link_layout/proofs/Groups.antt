@@ -5,7 +5,7 @@ use Rattle.omos_model.specs.declared.fragment.Group.{Group}
 use Rattle.omos_model.specs.declared.fragment.Group.TheVariants.{Code, Consts, Vars, Zeros}
 use Rattle.omos_model.specs.declared.fragment.Piece.{Piece}
 use Rattle.link_model.specs.Program.{Parts}
-use Rattle.link_model.specs.Layout.{aligned, all_pages, end_of, end_with, group_begin, group_size, page, pages_of, pieces_of}
+use Rattle.link_model.specs.Layout.{aligned, all_pages, end_of, end_with, group_begin, group_size, page, pages_of, program_pieces}
 use Rattle.link_model.specs.declared.groups.ByGroup.{ByGroup}
 use Rattle.link_model.specs.declared.groups.Groups.{Groups}
 use Rattle.link_model.specs.Groups.{by_group, bytes_of, groups_of}
@@ -57,7 +57,7 @@ begins-of_groups x parts h g =
     ap (λ (y : Groups). bytes_of y.begins g) h ∙ bytes_of-by_group (λ k. group_begin k parts) g
 
 pub groups-same : (ends sizes begins : ByGroup) (up slots : ℕ) (parts : Parts)
-    → AreEnds ends (pieces_of parts) → AreSizes sizes parts → AreBegins begins parts
+    → AreEnds ends (program_pieces parts) → AreSizes sizes parts → AreBegins begins parts
     → up ≡ aligned 8 ends.vars → slots ≡ begins.vars + up
     → record { sizes = sizes; begins = begins; slots = slots } ≡ groups_of parts
 groups-same ends sizes begins up slots parts end sized begun u s =

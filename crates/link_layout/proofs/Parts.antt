@@ -20,10 +20,10 @@ use Rattle.link_model.specs.Program.{Part, Parts, Reference, reference_of, refer
 use Rattle.link_model.specs.Module.{part_with}
 use Rattle.link_model.specs.Plan.{first_in, unresolved}
 use Rattle.link_model.specs.Layout.{is_got, is_slot, slots_of, target_at, with_slot}
-use Rattle.link_model.specs.Layout.{pieces_of, places_behind, places_from, places_of}
+use Rattle.link_model.specs.Layout.{program_pieces, places_behind, places_from, places_of}
 use Rattle.link_layout.specs.Layout.{places_over}
 use Rattle.link_layout.specs.Pieces.{all_pieces, pieces_in}
-use Rattle.link_layout.specs.References.{refusal_among, refusal_of, refusal_of_leaf}
+use Rattle.link_layout.specs.References.{refusal_among, refusal_for, refusal_of_leaf}
 use Rattle.link_layout.specs.Slots.{fixups_in, slots_with, slots_with_leaf}
 
 abbrev Rows : Type 0
@@ -33,7 +33,7 @@ Rows = List (Entry × List Landing)
 
 pub pieces-parts : (leaves : List Entry) (landings : List (List Landing))
     → length landings ≡ length leaves
-    → pieces_of (map part_with (zip leaves landings)) ≡ all_pieces leaves
+    → program_pieces (map part_with (zip leaves landings)) ≡ all_pieces leaves
 pieces-parts leaves landings same =
     flat_map-map (λ (x : Part). x.object.pieces) part_with (zip leaves landings)
     ∙ sym (flat_map-map pieces_in (λ (x : Entry × List Landing). x.0) (zip leaves landings))
@@ -142,11 +142,11 @@ first_in-append f (x ∷ xs) ys =
     ∙ sym (option_or_assoc (f x) (first_in f xs) (first_in f ys))
 
 rows-refused : (n : ℕ) (xs : Rows)
-    → first_in refusal_of (flat_map references_in (enumerate_from n (map part_with xs)))
+    → first_in refusal_for (flat_map references_in (enumerate_from n (map part_with xs)))
     ≡ refusal_among (enumerate_from n xs)
 rows-refused n [] = refl
 rows-refused n (x ∷ xs) =
-    first_in-append refusal_of (references_in (n, part_with x))
+    first_in-append refusal_for (references_in (n, part_with x))
     (flat_map references_in (enumerate_from (n + 1) (map part_with xs)))
     ∙ ap (option_or (refusal_of_leaf (n, x))) (rows-refused (n + 1) xs)
 

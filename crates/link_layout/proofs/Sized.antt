@@ -5,7 +5,7 @@ use Rattle.omos_model.specs.declared.mark.Target.{Target}
 use Rattle.link_model.specs.declared.groups.ByGroup.{ByGroup}
 use Rattle.link_model.specs.declared.groups.Groups.{Groups}
 use Rattle.link_model.specs.Groups.{groups_of}
-use Rattle.link_model.specs.Layout.{end_of, pieces_of, places_of, slots_of}
+use Rattle.link_model.specs.Layout.{end_of, program_pieces, places_of, slots_of}
 use Rattle.link_model.specs.Program.{Parts}
 use Rattle.link_layout.specs.declared.program.Program.{Program}
 use Rattle.link_layout.specs.Layout.{AreEnds, places_over}
@@ -34,7 +34,7 @@ module _ (p : Program) (few : IsFew p) where
     slots_are = seen ∙ sym (slots-parts p.leaves.now p.landings.now)
 
     pub groups_are : (ends : ByGroup) (groups : Groups) → AreEnds ends (all_pieces p.leaves.now)
-        → ((parts : Parts) → AreEnds ends (pieces_of parts) → slots_of parts ≡ slots
+        → ((parts : Parts) → AreEnds ends (program_pieces parts) → slots_of parts ≡ slots
         → groups ≡ groups_of parts)
         → groups ≡ groups_of (parts_in p)
     groups_are ends groups end h =

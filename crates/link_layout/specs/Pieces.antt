@@ -15,7 +15,7 @@ abbrev pub all_pieces : List Entry → List Piece
 all_pieces leaves = flat_map pieces_in leaves
 
 -- how large a piece of a fragment is, and how it is aligned, at most
-pub record IsBounded (p : Piece) : Type 0 where
+pub record IsBoundedPiece (p : Piece) : Type 0 where
   pub size : p.size ≤ max_size
   pub some : 1 ≤ p.align
   pub align : p.align ≤ 4096
@@ -23,7 +23,7 @@ pub record IsBounded (p : Piece) : Type 0 where
 -- how many pieces a fragment has at most, and how large each is
 pub record AreBounded (pieces : List Piece) : Type 0 where
   pub count : length pieces ≤ max_pieces
-  pub each : All IsBounded pieces
+  pub each : All IsBoundedPiece pieces
 
 -- a leaf's object is lawful
 abbrev pub IsLawful : Entry → Type 0

@@ -17,12 +17,12 @@ abbrev pub RefusesFor : {T : Type 0} → Option Refusal → Result T (Fault Refu
 RefusesFor refusal result = MatchFault result (λ _. refusal ≡ None) (λ x. refusal ≡ Some x)
 
 -- L11 for a reference
-abbrev pub refusal_of : Reference → Option Refusal
-refusal_of r = unresolved_at r r.landing
+abbrev pub refusal_for : Reference → Option Refusal
+refusal_for r = unresolved_at r r.landing
 
 -- L11 for the first of a leaf's numbered references
 abbrev pub refusal_in : ℕ → List (ℕ × (Fixup × Landing)) → Option Refusal
-refusal_in leaf rs = first_in refusal_of (map (reference_of leaf) rs)
+refusal_in leaf rs = first_in refusal_for (map (reference_of leaf) rs)
 
 -- L11 for the first reference of a numbered leaf
 abbrev pub refusal_of_leaf : ℕ × (Entry × List Landing) → Option Refusal

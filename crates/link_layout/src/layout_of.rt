@@ -5,7 +5,7 @@ ghost use Rattle.omos_model.specs.declared.fragment.Group.{Group};
 ghost use Rattle.link_model.specs.Groups.{bytes_of, groups_of};
 ghost use Rattle.link_model.specs.Layout as model;
 ghost use Rattle.link_model.specs.Plan.{entry_of, no_start, unresolved};
-ghost use Rattle.link_layout.specs.ByGroup.{IsWithin};
+ghost use Rattle.link_layout.specs.ByGroup.{AreAtMost};
 ghost use Rattle.link_layout.specs.IsLaid.{IsLaid};
 ghost use Rattle.link_layout.specs.Layout.{AreSizes};
 ghost use Rattle.link_layout.specs.Program.{IsFew, Lays, meaning_in, parts_in};
@@ -32,7 +32,7 @@ fn measure(alloc: Global, seed: Seed, program: &Program) -> Result<(Row<Target>,
     ensures slots { IfOk result (λ x. x.0 ≡ model.slots_of (parts_in program.now)) }
     ensures groups { IfOk result (λ x. x.1 ≡ groups_of (parts_in program.now)) }
     ensures sizes { IfOk result (λ x. AreSizes x.1.sizes (parts_in program.now)) }
-    ensures near { IfOk result (λ x. IsWithin (2 ^ 49) x.1.sizes) }
+    ensures near { IfOk result (λ x. AreAtMost (2 ^ 49) x.1.sizes) }
     ensures begins { IfOk result (λ x. (g : Group) → bytes_of x.1.begins g ≤ 2 ^ 52) }
 {
     let slots = slots_of(alloc, seed, program.leaves, program.landings)?;

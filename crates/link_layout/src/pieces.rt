@@ -5,7 +5,7 @@ ghost use Rattle.omos_model.specs.declared.fragment.Group.{Group};
 ghost use Rattle.link_model.specs.Layout.{begin_of, end_with};
 ghost use Rattle.link_model.specs.Groups.{bytes_of};
 ghost use Rattle.link_layout.specs.Layout.{AreEnds};
-ghost use Rattle.link_layout.specs.Pieces.{AreBounded, IsBounded, IsLawful, all_pieces, pieces_in};
+ghost use Rattle.link_layout.specs.Pieces.{AreBounded, IsBoundedPiece, IsLawful, all_pieces, pieces_in};
 
 use crate::offsets::aligned;
 use link_model::ByGroup;
@@ -29,7 +29,7 @@ pub fn pieces_in(leaf: &Shared<Entry>) -> &[Piece]
 /// Lays a piece behind those of its group, and says where it begins, counted from where the group
 /// does.
 pub fn lay_piece(ends: &mut ByGroup, piece: &Piece) -> u64
-    requires bounded { IsBounded piece.now }
+    requires bounded { IsBoundedPiece piece.now }
     requires room { bytes_of ends.old piece.now.group ≤ 2 ^ 55 }
     ensures begin { result ≡ begin_of (bytes_of ends.old piece.now.group) piece.now }
     ensures ends { (g : Group) → bytes_of ends.new g ≡ end_with g (bytes_of ends.old g) piece.now }

@@ -6,7 +6,7 @@ ghost use Rattle.std.specs.Option.{option_copied, option_map};
 ghost use Rattle.omos_model.specs.declared.refusal.Refusal.TheVariants.{Unresolved};
 ghost use Rattle.link_model.specs.Plan.{is_weak};
 ghost use Rattle.link_model.specs.Program.{reference_of};
-ghost use Rattle.link_layout.specs.References.{RefusesFor, refusal_among, refusal_in, refusal_of};
+ghost use Rattle.link_layout.specs.References.{RefusesFor, refusal_among, refusal_in, refusal_for};
 
 use crate::slots::fixups_in;
 use omos_base::{Fault, Row, Shared, SymName};
@@ -24,7 +24,7 @@ fn is_weak(aim: &Aim) -> bool
 
 /// The name under which a reference is open, where it is bound to nothing and isn't weak.
 fn open_name<'a>(fixup: &Fixup, landing: &'a Landing) -> Option<&'a SymName>
-    ensures { (leaf number : ℕ) → refusal_of (reference_of leaf (number, (fixup.now, landing.now)))
+    ensures { (leaf number : ℕ) → refusal_for (reference_of leaf (number, (fixup.now, landing.now)))
         ≡ option_map (Unresolved leaf number) (option_copied result) }
 {
     match landing {

@@ -2,10 +2,10 @@
 
 ghost use Rattle.std.specs.Prelude.{◌≡◌, ◌+◌, ◌*◌, ◌^◌, ◌<◌, ◌≤◌, length};
 ghost use Rattle.omos_model.specs.declared.fragment.Group.{Group};
-ghost use Rattle.link_model.specs.Layout.{all_pages, end_with_slots, pieces_of, slots_of};
+ghost use Rattle.link_model.specs.Layout.{all_pages, end_with_slots, program_pieces, slots_of};
 ghost use Rattle.link_model.specs.Program.{Parts};
 ghost use Rattle.link_model.specs.Groups.{bytes_of, groups_of};
-ghost use Rattle.link_layout.specs.ByGroup.{IsWithin};
+ghost use Rattle.link_layout.specs.ByGroup.{AreAtMost};
 ghost use Rattle.link_layout.specs.Layout.{AreBegins, AreEnds, AreSizes};
 
 use crate::offsets::{PAGE, aligned, pages_of};
@@ -30,9 +30,9 @@ fn end_with_slots(end: u64, slots: &[Target]) -> u64
 fn sizes_of(ends: &ByGroup, slots: &[Target]) -> ByGroup
     requires near { (g : Group) → bytes_of ends.now g ≤ 2 ^ 48 }
     requires few { length slots.now ≤ 1048576 }
-    ensures sizes { (parts : Parts) → AreEnds ends.now (pieces_of parts)
+    ensures sizes { (parts : Parts) → AreEnds ends.now (program_pieces parts)
         → slots_of parts ≡ slots.now → AreSizes result parts }
-    ensures near { IsWithin (2 ^ 49) result }
+    ensures near { AreAtMost (2 ^ 49) result }
 {
     ByGroup {
         vars: end_with_slots(ends.vars, slots),
@@ -43,7 +43,7 @@ fn sizes_of(ends: &ByGroup, slots: &[Target]) -> ByGroup
 /// Where groups of these sizes begin, counted from the base: Code at 0, each other one where the
 /// pages of the one before end.
 fn begins_of(sizes: &ByGroup) -> ByGroup
-    requires { IsWithin (2 ^ 49) sizes.now }
+    requires { AreAtMost (2 ^ 49) sizes.now }
     ensures begins { (parts : Parts) → AreSizes sizes.now parts → AreBegins result parts }
     ensures near { (g : Group) → bytes_of result g ≤ 2 ^ 52 }
 {
@@ -62,9 +62,9 @@ fn begins_of(sizes: &ByGroup) -> ByGroup
 pub fn groups_of(ends: &ByGroup, slots: &[Target]) -> Groups
     requires near { (g : Group) → bytes_of ends.now g ≤ 2 ^ 48 }
     requires few { length slots.now ≤ 1048576 }
-    ensures groups { (parts : Parts) → AreEnds ends.now (pieces_of parts)
+    ensures groups { (parts : Parts) → AreEnds ends.now (program_pieces parts)
         → slots_of parts ≡ slots.now → result ≡ groups_of parts }
-    ensures sizes { IsWithin (2 ^ 49) result.sizes }
+    ensures sizes { AreAtMost (2 ^ 49) result.sizes }
     ensures begins { (g : Group) → bytes_of result.begins g ≤ 2 ^ 52 }
 {
     let sizes = sizes_of(ends, slots);
@@ -78,7 +78,7 @@ pub fn groups_of(ends: &ByGroup, slots: &[Target]) -> Groups
 
 /// How many pages the groups have.
 pub fn all_pages(sizes: &ByGroup) -> u64
-    requires { IsWithin (2 ^ 49) sizes.now }
+    requires { AreAtMost (2 ^ 49) sizes.now }
     ensures { (parts : Parts) → AreSizes sizes.now parts → result ≡ all_pages parts }
 {
     pages_of(sizes.code) + pages_of(sizes.consts) + pages_of(sizes.vars) + pages_of(sizes.zeros)

@@ -22,7 +22,7 @@ use Rattle.omos_model.specs.declared.refusal.Refusal.TheVariants.{Overflow}
 use Rattle.link_model.specs.Field.{field_value}
 use Rattle.link_model.specs.Program.{Reference, references}
 use Rattle.link_model.specs.Layout.{page, target_at, slot_number, slots_begin, group_begin}
-use Rattle.link_model.specs.Layout.{group_pages, group_size, pieces_of}
+use Rattle.link_model.specs.Layout.{group_pages, group_size, program_pieces}
 use Rattle.link_model.specs.Plan.{Plan, first_in}
 
 -- ---- addresses
@@ -90,7 +90,7 @@ slot_byte plan base x =
 
 -- the pieces with their places
 abbrev pub placed_pieces : Plan → List (ℕ × Piece)
-placed_pieces plan = zip (flat_map (λ row. row) plan.places) (pieces_of plan.parts)
+placed_pieces plan = zip (flat_map (λ row. row) plan.places) (program_pieces plan.parts)
 
 -- of a section
 abbrev pub piece_byte : Plan → ℕ → Option ℕ

@@ -34,8 +34,8 @@ same_group _ _ = false
 -- ---- pieces: in a group by leaf, then by number, each at the next offset that its alignment divides
 
 -- the pieces of all objects, by leaf, then by number
-abbrev pub pieces_of : Parts → List Piece
-pieces_of parts = flat_map (λ x. x.object.pieces) parts
+abbrev pub program_pieces : Parts → List Piece
+program_pieces parts = flat_map (λ x. x.object.pieces) parts
 
 -- where a piece of the group begins that follows this offset
 abbrev pub begin_of : ℕ → Piece → ℕ
@@ -90,8 +90,8 @@ end_with_slots end (t ∷ ts) = aligned 8 end + 8 * length (t ∷ ts)
 
 -- a group's size is the end of its last piece or slot
 abbrev pub group_size : Group → Parts → ℕ
-group_size Vars parts = end_with_slots (end_of Vars (pieces_of parts)) (slots_of parts)
-group_size g parts = end_of g (pieces_of parts)
+group_size Vars parts = end_with_slots (end_of Vars (program_pieces parts)) (slots_of parts)
+group_size g parts = end_of g (program_pieces parts)
 
 abbrev pub group_pages : Group → Parts → ℕ
 group_pages g parts = pages_of (group_size g parts)
@@ -135,4 +135,4 @@ places_of parts = places_from parts [] parts
 
 -- where the slots begin
 abbrev pub slots_begin : Parts → ℕ
-slots_begin parts = group_begin Vars parts + aligned 8 (end_of Vars (pieces_of parts))
+slots_begin parts = group_begin Vars parts + aligned 8 (end_of Vars (program_pieces parts))

@@ -13,7 +13,7 @@ use Rattle.omos_model.specs.declared.entry.Stamped.{Stamped}
 use Rattle.omos_model.proofs.Names.{is_eq-name_cmp}
 use Rattle.omos_model.proofs.Spaces.{Above, paths}
 use Rattle.name_tree.specs.Order.{IsInOrder, place}
-use Rattle.name_tree.specs.Tree.{joined, AreFilled, entries_of, IsTree, begun, part_at, parted}
+use Rattle.name_tree.specs.Tree.{joined_pages, AreFilled, entries_of, IsTree, begun, part_at, parted}
 use Rattle.name_tree.specs.Tree.{pages_with}
 use Rattle.name_tree.proofs.Places.{turned}
 use Rattle.name_tree.proofs.Parts.{Below, AreSome, filled-some, in_order-right, in_order-left}
@@ -85,46 +85,46 @@ place-between p (x ∷ xs) ys zs b a =
 
 -- ---- the part alone
 
-pub look_up-part : (ps : List Space) (p : Name) → AreSome ps → IsInOrder (joined ps)
-    → look_up (joined ps) p ≡ look_up (get_or ps (part_at ps p) []) p
+pub look_up-part : (ps : List Space) (p : Name) → AreSome ps → IsInOrder (joined_pages ps)
+    → look_up (joined_pages ps) p ≡ look_up (get_or ps (part_at ps p) []) p
 look_up-part ps p f o =
     ap (λ l. look_up l p) (joined-split ps (part_at ps p))
-    ∙ look_up-between p (joined (take (part_at ps p) ps)) (get_or ps (part_at ps p) [])
-    (joined (drop (suc (part_at ps p)) ps)) (before-part p ps f o) (after-part p ps f o)
+    ∙ look_up-between p (joined_pages (take (part_at ps p) ps)) (get_or ps (part_at ps p) [])
+    (joined_pages (drop (suc (part_at ps p)) ps)) (before-part p ps f o) (after-part p ps f o)
 
-pub in_order-part : (ps : List Space) (k : ℕ) → IsInOrder (joined ps) → IsInOrder (get_or ps k [])
+pub in_order-part : (ps : List Space) (k : ℕ) → IsInOrder (joined_pages ps) → IsInOrder (get_or ps k [])
 in_order-part ps k o =
-    in_order-left (get_or ps k []) (joined (drop (suc k) ps))
-    (in_order-right (joined (take k ps)) (get_or ps k [] ++ joined (drop (suc k) ps))
+    in_order-left (get_or ps k []) (joined_pages (drop (suc k) ps))
+    (in_order-right (joined_pages (take k ps)) (get_or ps k [] ++ joined_pages (drop (suc k) ps))
     (subst IsInOrder (joined-split ps k) o))
 
-pub joined-append : (ps qs : List Space) → joined (ps ++ qs) ≡ joined ps ++ joined qs
+pub joined-append : (ps qs : List Space) → joined_pages (ps ++ qs) ≡ joined_pages ps ++ joined_pages qs
 joined-append [] qs = refl
 joined-append (p ∷ ps) qs = ap (λ l. p ++ l) (joined-append ps qs)
-    ∙ sym (append_assoc p (joined ps) (joined qs))
+    ∙ sym (append_assoc p (joined_pages ps) (joined_pages qs))
 
-pub joined-parted : (xs : Space) → joined (parted xs) ≡ xs
+pub joined-parted : (xs : Space) → joined_pages (parted xs) ≡ xs
 joined-parted xs = go (length xs == 65)
   where
-    go : (b : Bool) → joined (cond b (take 32 xs ∷ drop 32 xs ∷ []) (xs ∷ [])) ≡ xs
+    go : (b : Bool) → joined_pages (cond b (take 32 xs ∷ drop 32 xs ∷ []) (xs ∷ [])) ≡ xs
     go true = ap (λ l. take 32 xs ++ l) (append-nil (drop 32 xs)) ∙ take-append-drop 32 xs
     go false = append-nil xs
 
-pub joined-with : (ps : List Space) (s : Stamped) → AreSome ps → IsInOrder (joined ps)
-    → joined (pages_with ps s) ≡ with_entry (joined ps) s
+pub joined-with : (ps : List Space) (s : Stamped) → AreSome ps → IsInOrder (joined_pages ps)
+    → joined_pages (pages_with ps s) ≡ with_entry (joined_pages ps) s
 joined-with ps s f o =
     let at = part_at ps s.path in
     let page = get_or ps at [] in
     let rest = drop (suc at) ps in
     joined-append (take at ps ++ parted (with_entry page s)) rest
-    ∙ ap (λ l. l ++ joined rest) (joined-append (take at ps) (parted (with_entry page s))
-    ∙ ap (λ l. joined (take at ps) ++ l) (joined-parted (with_entry page s)))
-    ∙ append_assoc (joined (take at ps)) (with_entry page s) (joined rest)
-    ∙ sym (with_entry-between s (joined (take at ps)) page (joined rest) (before-part s.path ps f o)
+    ∙ ap (λ l. l ++ joined_pages rest) (joined-append (take at ps) (parted (with_entry page s))
+    ∙ ap (λ l. joined_pages (take at ps) ++ l) (joined-parted (with_entry page s)))
+    ∙ append_assoc (joined_pages (take at ps)) (with_entry page s) (joined_pages rest)
+    ∙ sym (with_entry-between s (joined_pages (take at ps)) page (joined_pages rest) (before-part s.path ps f o)
     (after-part s.path ps f o))
     ∙ ap (λ l. with_entry l s) (sym (joined-split ps at))
 
-pub joined-past : (ps : List Space) (p : Name) → length ps ≤ part_at ps p → joined ps ≡ []
+pub joined-past : (ps : List Space) (p : Name) → length ps ≤ part_at ps p → joined_pages ps ≡ []
 joined-past [] p h = refl
 joined-past (x ∷ xs) p h =
     let i : begun (x ∷ xs) p ≤ suc (length xs) = begun-length (x ∷ xs) p in
@@ -145,22 +145,22 @@ map-drop f (suc k) [] = refl
 map-drop f (suc k) (x ∷ xs) = map-drop f k xs
 
 pub get-joined : (bs : List (List Space)) (k : ℕ)
-    → get_or (map joined bs) k [] ≡ joined (get_or bs k [])
+    → get_or (map joined_pages bs) k [] ≡ joined_pages (get_or bs k [])
 get-joined [] k = refl
 get-joined (b ∷ bs) zero = refl
 get-joined (b ∷ bs) (suc k) = get-joined bs k
 
-joined-some : (ps : List Space) → 0 < length ps → AreSome ps → 0 < length (joined ps)
+joined-some : (ps : List Space) → 0 < length ps → AreSome ps → 0 < length (joined_pages ps)
 joined-some [] lt f = absurd (omega arith)
 joined-some ([] ∷ ps) lt f = let z : 0 < 0 = f.0 in absurd (omega (arith, z))
 joined-some ((x ∷ xs) ∷ ps) lt f = omega arith
 
 pub branches-some : (bs : List (List Space)) → AreFilled bs → AllByRecursion (λ ps. AreFilled ps) bs
-    → AreSome (map joined bs)
+    → AreSome (map joined_pages bs)
 branches-some [] f g = tt
 branches-some (b ∷ bs) f g = (joined-some b f.0.0 (filled-some b g.0), branches-some bs f.1 g.1)
 
-pub tree-some : (bs : List (List Space)) → IsTree bs → AreSome (map joined bs)
+pub tree-some : (bs : List (List Space)) → IsTree bs → AreSome (map joined_pages bs)
 tree-some bs t = branches-some bs t.filled t.pages_filled
 
 pub branch-filled : (bs : List (List Space)) (k : ℕ) → AllByRecursion (λ ps. AreFilled ps) bs
@@ -170,14 +170,14 @@ branch-filled (b ∷ bs) zero g = g.0
 branch-filled (b ∷ bs) (suc k) g = branch-filled bs k g.1
 
 pub branch-in_order : (bs : List (List Space)) (k : ℕ) → IsInOrder (entries_of bs)
-    → IsInOrder (joined (get_or bs k []))
-branch-in_order bs k o = subst IsInOrder (get-joined bs k) (in_order-part (map joined bs) k o)
+    → IsInOrder (joined_pages (get_or bs k []))
+branch-in_order bs k o = subst IsInOrder (get-joined bs k) (in_order-part (map joined_pages bs) k o)
 
 pub look_up-branch : (bs : List (List Space)) (p : Name) → IsTree bs
-    → look_up (entries_of bs) p ≡ look_up (joined (get_or bs (part_at (map joined bs) p) [])) p
+    → look_up (entries_of bs) p ≡ look_up (joined_pages (get_or bs (part_at (map joined_pages bs) p) [])) p
 look_up-branch bs p t =
-    look_up-part (map joined bs) p (tree-some bs t) t.in_order
-    ∙ ap (λ l. look_up l p) (get-joined bs (part_at (map joined bs) p))
+    look_up-part (map joined_pages bs) p (tree-some bs t) t.in_order
+    ∙ ap (λ l. look_up l p) (get-joined bs (part_at (map joined_pages bs) p))
 
 pub get-default : {X : Type 0} (xs : List X) (k : ℕ) (d e : X) → k < length xs
     → get_or xs k d ≡ get_or xs k e
@@ -187,21 +187,21 @@ get-default (x ∷ xs) (suc k) d e lt = let below : k < length xs =
     omega arith in get-default xs k d e below
 
 pub joined-more : (ps : List Space) (k : ℕ) (d : Space) → k < length ps
-    → joined (take (k + 1) ps) ≡ joined (take k ps) ++ get_or ps k d
+    → joined_pages (take (k + 1) ps) ≡ joined_pages (take k ps) ++ get_or ps k d
 joined-more [] k d lt = absurd (omega arith)
 joined-more (x ∷ xs) zero d lt = append-nil x
 joined-more (x ∷ xs) (suc k) d lt =
     let below : k < length xs = omega arith in
     let e : suc k + 1 ≡ suc (k + 1) = omega arith in
     rw e (ap (λ l. x ++ l) (joined-more xs k d below)
-    ∙ sym (append_assoc x (joined (take k xs)) (get_or xs k d)))
+    ∙ sym (append_assoc x (joined_pages (take k xs)) (get_or xs k d)))
 
 pub entries-more : (bs : List (List Space)) (k : ℕ) (d : List Space) → k < length bs
-    → entries_of (take (k + 1) bs) ≡ entries_of (take k bs) ++ joined (get_or bs k d)
+    → entries_of (take (k + 1) bs) ≡ entries_of (take k bs) ++ joined_pages (get_or bs k d)
 entries-more [] k d lt = absurd (omega arith)
-entries-more (x ∷ xs) zero d lt = append-nil (joined x)
+entries-more (x ∷ xs) zero d lt = append-nil (joined_pages x)
 entries-more (x ∷ xs) (suc k) d lt =
     let below : k < length xs = omega arith in
     let e : suc k + 1 ≡ suc (k + 1) = omega arith in
-    rw e (ap (λ l. joined x ++ l) (entries-more xs k d below)
-    ∙ sym (append_assoc (joined x) (entries_of (take k xs)) (joined (get_or xs k d))))
+    rw e (ap (λ l. joined_pages x ++ l) (entries-more xs k d below)
+    ∙ sym (append_assoc (joined_pages x) (entries_of (take k xs)) (joined_pages (get_or xs k d))))

@@ -19,7 +19,7 @@ use Rattle.omos_model.proofs.Names.{is_eq-name_cmp}
 use Rattle.omos_model.proofs.Ranges.{length-map}
 use Rattle.omos_model.proofs.Spaces.{Above, above-trans, paths, IsStrictlySortedBy-with_entry}
 use Rattle.name_tree.specs.Order.{IsInOrder}
-use Rattle.name_tree.specs.Tree.{joined, AreFilled, IsFilled, entries_of, IsTree, counts_of}
+use Rattle.name_tree.specs.Tree.{joined_pages, AreFilled, IsFilled, entries_of, IsTree, page_counts}
 use Rattle.name_tree.specs.Tree.{branches_with, begun, part_at, parted, pages_with}
 use Rattle.name_tree.proofs.Parts.{Below, filled-some, begun-length, before-part, after-part}
 use Rattle.name_tree.proofs.Parts.{joined-split}
@@ -33,47 +33,47 @@ entries_of-append : (xs ys : List (List Space))
     → entries_of (xs ++ ys) ≡ entries_of xs ++ entries_of ys
 entries_of-append [] ys = refl
 entries_of-append (x ∷ xs) ys =
-    ap (λ l. joined x ++ l) (entries_of-append xs ys)
-    ∙ sym (append_assoc (joined x) (entries_of xs) (entries_of ys))
+    ap (λ l. joined_pages x ++ l) (entries_of-append xs ys)
+    ∙ sym (append_assoc (joined_pages x) (entries_of xs) (entries_of ys))
 
-entries_of-parted : (ps : List Space) → entries_of (parted ps) ≡ joined ps
+entries_of-parted : (ps : List Space) → entries_of (parted ps) ≡ joined_pages ps
 entries_of-parted ps = go (length ps == 65)
   where
-    go : (b : Bool) → entries_of (cond b (take 32 ps ∷ drop 32 ps ∷ []) (ps ∷ [])) ≡ joined ps
+    go : (b : Bool) → entries_of (cond b (take 32 ps ∷ drop 32 ps ∷ []) (ps ∷ [])) ≡ joined_pages ps
     go true =
-        ap (λ l. joined (take 32 ps) ++ l) (append-nil (joined (drop 32 ps)))
-        ∙ sym (joined-append (take 32 ps) (drop 32 ps)) ∙ ap joined (take-append-drop 32 ps)
-    go false = append-nil (joined ps)
+        ap (λ l. joined_pages (take 32 ps) ++ l) (append-nil (joined_pages (drop 32 ps)))
+        ∙ sym (joined-append (take 32 ps) (drop 32 ps)) ∙ ap joined_pages (take-append-drop 32 ps)
+    go false = append-nil (joined_pages ps)
 
 pub entries-with : (bs : List (List Space)) (s : Stamped) → IsTree bs
     → entries_of (branches_with bs s) ≡ with_entry (entries_of bs) s
 entries-with bs s t =
-    let at = part_at (map joined bs) s.path in
+    let at = part_at (map joined_pages bs) s.path in
     let branch = get_or bs at [] in
     let rest = drop (suc at) bs in
     let made = parted (pages_with branch s) in
-    let new : joined (pages_with branch s) ≡ with_entry (joined branch) s =
+    let new : joined_pages (pages_with branch s) ≡ with_entry (joined_pages branch) s =
     joined-with branch s (filled-some branch (branch-filled bs at t.pages_filled))
     (branch-in_order bs at t.in_order) in
     let below : Below s.path (entries_of (take at bs)) =
-    subst (λ l. Below s.path (joined l)) (map-take joined at bs)
-    (before-part s.path (map joined bs) (tree-some bs t) t.in_order) in
+    subst (λ l. Below s.path (joined_pages l)) (map-take joined_pages at bs)
+    (before-part s.path (map joined_pages bs) (tree-some bs t) t.in_order) in
     let above : Above s.path (paths (entries_of rest)) =
-    subst (λ l. Above s.path (paths (joined l))) (map-drop joined (suc at) bs)
-    (after-part s.path (map joined bs) (tree-some bs t) t.in_order) in
-    let split : entries_of bs ≡ entries_of (take at bs) ++ (joined branch ++ entries_of rest) =
-    joined-split (map joined bs) at
-    ∙ ap (λ l. joined l ++ (get_or (map joined bs) at [] ++ joined (drop (suc at) (map joined bs))))
-    (map-take joined at bs)
-    ∙ ap (λ l. entries_of (take at bs) ++ (l ++ joined (drop (suc at) (map joined bs))))
+    subst (λ l. Above s.path (paths (joined_pages l))) (map-drop joined_pages (suc at) bs)
+    (after-part s.path (map joined_pages bs) (tree-some bs t) t.in_order) in
+    let split : entries_of bs ≡ entries_of (take at bs) ++ (joined_pages branch ++ entries_of rest) =
+    joined-split (map joined_pages bs) at
+    ∙ ap (λ l. joined_pages l ++ (get_or (map joined_pages bs) at [] ++ joined_pages (drop (suc at) (map joined_pages bs))))
+    (map-take joined_pages at bs)
+    ∙ ap (λ l. entries_of (take at bs) ++ (l ++ joined_pages (drop (suc at) (map joined_pages bs))))
     (get-joined bs at)
-    ∙ ap (λ l. entries_of (take at bs) ++ (joined branch ++ joined l))
-    (map-drop joined (suc at) bs) in
+    ∙ ap (λ l. entries_of (take at bs) ++ (joined_pages branch ++ joined_pages l))
+    (map-drop joined_pages (suc at) bs) in
     entries_of-append (take at bs ++ made) rest
     ∙ ap (λ l. l ++ entries_of rest) (entries_of-append (take at bs) made
     ∙ ap (λ l. entries_of (take at bs) ++ l) (entries_of-parted (pages_with branch s) ∙ new))
-    ∙ append_assoc (entries_of (take at bs)) (with_entry (joined branch) s) (entries_of rest)
-    ∙ sym (with_entry-between s (entries_of (take at bs)) (joined branch) (entries_of rest) below
+    ∙ append_assoc (entries_of (take at bs)) (with_entry (joined_pages branch) s) (entries_of rest)
+    ∙ sym (with_entry-between s (entries_of (take at bs)) (joined_pages branch) (entries_of rest) below
     above)
     ∙ ap (λ l. with_entry l s) (sym split)
 
@@ -91,26 +91,26 @@ pub sum-cons : (x : ℕ) (xs : List ℕ) → sum (x ∷ xs) ≡ x + sum xs
 sum-cons x xs =
     let i : sum (x ∷ xs) ≡ 0 + x + sum xs = sum-from (0 + x) xs in omega (arith, i)
 
-pub sum-page : (ps : List Space) → sum (map (λ p. length p) ps) ≡ length (joined ps)
+pub sum-page : (ps : List Space) → sum (map (λ p. length p) ps) ≡ length (joined_pages ps)
 sum-page [] = refl
 sum-page (p ∷ ps) =
-    let i : sum (map (λ p. length p) ps) ≡ length (joined ps) = sum-page ps in
-    let l : length (p ++ joined ps) ≡ length p + length (joined ps) = length-append p (joined ps) in
-    let g : length p + sum (map (λ p. length p) ps) ≡ length (p ++ joined ps) =
+    let i : sum (map (λ p. length p) ps) ≡ length (joined_pages ps) = sum-page ps in
+    let l : length (p ++ joined_pages ps) ≡ length p + length (joined_pages ps) = length-append p (joined_pages ps) in
+    let g : length p + sum (map (λ p. length p) ps) ≡ length (p ++ joined_pages ps) =
     omega (arith, i, l) in
     sum-cons (length p) (map (λ p. length p) ps) ∙ g
 
 pub sum-counts : (bs : List (List Space))
-    → sum (map (λ c. sum c) (counts_of bs)) ≡ length (entries_of bs)
+    → sum (map (λ c. sum c) (page_counts bs)) ≡ length (entries_of bs)
 sum-counts [] = refl
 sum-counts (b ∷ bs) =
-    let i : sum (map (λ c. sum c) (counts_of bs)) ≡ length (entries_of bs) = sum-counts bs in
-    let j : sum (map (λ p. length p) b) ≡ length (joined b) = sum-page b in
-    let l : length (joined b ++ entries_of bs) ≡ length (joined b) + length (entries_of bs) =
-    length-append (joined b) (entries_of bs) in
-    let g : sum (map (λ p. length p) b) + sum (map (λ c. sum c) (counts_of bs))
-    ≡ length (joined b ++ entries_of bs) = omega (arith, i, j, l) in
-    sum-cons (sum (map (λ p. length p) b)) (map (λ c. sum c) (counts_of bs)) ∙ g
+    let i : sum (map (λ c. sum c) (page_counts bs)) ≡ length (entries_of bs) = sum-counts bs in
+    let j : sum (map (λ p. length p) b) ≡ length (joined_pages b) = sum-page b in
+    let l : length (joined_pages b ++ entries_of bs) ≡ length (joined_pages b) + length (entries_of bs) =
+    length-append (joined_pages b) (entries_of bs) in
+    let g : sum (map (λ p. length p) b) + sum (map (λ c. sum c) (page_counts bs))
+    ≡ length (joined_pages b ++ entries_of bs) = omega (arith, i, j, l) in
+    sum-cons (sum (map (λ p. length p) b)) (map (λ c. sum c) (page_counts bs)) ∙ g
 
 -- ---- a tree with an entry
 
@@ -251,11 +251,11 @@ pub at-within : (ps : List Space) (p : Name) → 0 < length ps → part_at ps p 
 at-within ps p lt = let h : begun ps p ≤ length ps = begun-length ps p in omega (arith, h, lt)
 
 pub branch-within : (bs : List (List Space)) (p : Name) → 0 < length bs
-    → part_at (map joined bs) p < length bs
+    → part_at (map joined_pages bs) p < length bs
 branch-within bs p lt =
-    let size : length (map joined bs) ≡ length bs = length-map joined bs in
-    let within : part_at (map joined bs) p < length (map joined bs) =
-    at-within (map joined bs) p (omega (arith, lt, size)) in
+    let size : length (map joined_pages bs) ≡ length bs = length-map joined_pages bs in
+    let within : part_at (map joined_pages bs) p < length (map joined_pages bs) =
+    at-within (map joined_pages bs) p (omega (arith, lt, size)) in
     omega (arith, within, size)
 
 pub pages-with-length : (ps : List Space) (s : Stamped)
@@ -289,7 +289,7 @@ pages-with-length ps s = (
 
 pub tree-with : (bs : List (List Space)) (s : Stamped) → IsTree bs → IsTree (branches_with bs s)
 tree-with bs s t =
-    let k = part_at (map joined bs) s.path in
+    let k = part_at (map joined_pages bs) s.path in
     let new = pages_with (get_or bs k []) s in
     let h = pages-with-length (get_or bs k []) s in
     let n : length (get_or bs k []) ≤ 64 = branch-short bs k t.filled in

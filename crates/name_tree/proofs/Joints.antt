@@ -8,7 +8,7 @@ use Rattle.std.proofs.lemmas.List.{length-drop}
 use Rattle.omos_model.specs.Namespace.{Space, with_entry}
 use Rattle.omos_model.specs.declared.entry.Stamped.{Stamped}
 use Rattle.name_tree.specs.Order.{place}
-use Rattle.name_tree.specs.Tree.{joined, part_at, parted, pages_with, branches_with}
+use Rattle.name_tree.specs.Tree.{joined_pages, part_at, parted, pages_with, branches_with}
 use Rattle.name_tree.proofs.Places.{with_entry-drop}
 
 module _ {X : Type 0} where
@@ -45,7 +45,7 @@ pages-around ps s k f n b hk hf hn hb =
     ∙ ap (λ k. take k ps ++ parted (with_entry (get_or ps k []) s) ++ drop (suc k) ps) hk
 
 pub branches-around : (bs : List (List Space)) (s : Stamped) (k : ℕ) (f n b : List (List Space))
-    → k ≡ part_at (map joined bs) s.path
+    → k ≡ part_at (map joined_pages bs) s.path
     → f ≡ take k bs → n ≡ parted (pages_with (get_or bs k []) s) → b ≡ drop (suc k) bs
     → f ++ n ++ b ≡ branches_with bs s
 branches-around bs s k f n b hk hf hn hb =

@@ -6,7 +6,7 @@ use Rattle.std.proofs.Common.{subst, take_all}
 use Rattle.std.proofs.lemmas.List.{append-nil, length-take-le, length-drop, ext_get_or, get_or-take}
 use Rattle.std.proofs.lemmas.List.{get_or-drop}
 use Rattle.std.proofs.lemmas.List.{get_or_append_left, get_or-append_right, get_or_default}
-use Rattle.name_tree.specs.Few.{in_rows, IsRow}
+use Rattle.name_tree.specs.Few.{row_values, IsRow}
 
 split : (n k : ℕ) → (k < n) ⊎ (n ≤ k)
 split zero k = inr (omega arith)
@@ -82,52 +82,52 @@ module _ {X : Type 0} where
       moved {m} {n} {r} e h = subst (λ k. IsRow xs k last r) e h
 
   pub length-rows : (xs : List X) (at last : ℕ) (rs : List (List X)) → AreRows xs at last rs
-      → length (in_rows rs) ≡ 8 * length rs
+      → length (row_values rs) ≡ 8 * length rs
   length-rows xs at last [] h = refl
   length-rows xs at last (r ∷ rs) h =
-      let i : length (in_rows rs) ≡ 8 * length rs = length-rows xs (at + 8) last rs h.1 in
-      let a : length (r ++ in_rows rs) ≡ length r + length (in_rows rs) =
-      length-append r (in_rows rs) in
+      let i : length (row_values rs) ≡ 8 * length rs = length-rows xs (at + 8) last rs h.1 in
+      let a : length (r ++ row_values rs) ≡ length r + length (row_values rs) =
+      length-append r (row_values rs) in
       let l : length r ≡ 8 = h.0.long in
       omega (arith, i, a, l)
 
   at-row : (xs : List X) (at last : ℕ) (rs : List (List X)) → AreRows xs at last rs
       → (k : ℕ) (d : X)
-      → k < 8 * length rs → at + k ≤ last → get_or (in_rows rs) k d ≡ get_or xs (at + k) d
+      → k < 8 * length rs → at + k ≤ last → get_or (row_values rs) k d ≡ get_or xs (at + k) d
   at-row xs at last [] h k d lt le = absurd (omega (arith, lt))
   at-row xs at last (r ∷ rs) h k d lt le = go (split 8 k) (at-row xs (at + 8) last rs h.1 (k - 8) d)
     where
       go : (k < 8) ⊎ (8 ≤ k)
           → (k - 8 < 8 * length rs → at + 8 + (k - 8) ≤ last
-          → get_or (in_rows rs) (k - 8) d ≡ get_or xs (at + 8 + (k - 8)) d)
-          → get_or (r ++ in_rows rs) k d ≡ get_or xs (at + k) d
+          → get_or (row_values rs) (k - 8) d ≡ get_or xs (at + 8 + (k - 8)) d)
+          → get_or (r ++ row_values rs) k d ≡ get_or xs (at + k) d
       go (inl small) later =
           let l : length r ≡ 8 = h.0.long in
-          get_or_append_left r (in_rows rs) d k (omega (arith, small, l)) ∙ h.0.same k d small le
+          get_or_append_left r (row_values rs) d k (omega (arith, small, l)) ∙ h.0.same k d small le
       go (inr big) later =
           let e : at + 8 + (k - 8) ≡ at + k = omega (arith, big) in
           let below : k - 8 < 8 * length rs = omega (arith, lt, big) in
-          get_or-append_right r (in_rows rs) 8 k d h.0.long big
+          get_or-append_right r (row_values rs) 8 k d h.0.long big
           ∙ later below (omega (arith, le, big))
           ∙ ap (λ n. get_or xs n d) e
 
   pub few-of : (xs : List X) (from count : ℕ) (rs : List (List X)) → 0 < count
       → count ≤ 8 * length rs
       → from + count ≤ length xs → AreRows xs from (from + (count - 1)) rs
-      → take count (in_rows rs) ≡ take count (drop from xs)
+      → take count (row_values rs) ≡ take count (drop from xs)
   few-of [] from count rs some few within h = absurd (omega (arith, some, within))
   few-of (x ∷ xs) from count rs some few within h =
       let all : List X = x ∷ xs in
-      let l : length (in_rows rs) ≡ 8 * length rs =
+      let l : length (row_values rs) ≡ 8 * length rs =
       length-rows all from (from + (count - 1)) rs h in
-      let t : length (take count (in_rows rs)) ≡ count =
-      length-take-le count (in_rows rs) (omega (arith, few, l)) in
+      let t : length (take count (row_values rs)) ≡ count =
+      length-take-le count (row_values rs) (omega (arith, few, l)) in
       let d : length (drop from all) ≡ length all - from = length-drop from all in
       let u : length (take count (drop from all)) ≡ count =
       length-take-le count (drop from all) (omega (arith, within, d)) in
-      ext_get_or x (take count (in_rows rs)) (take count (drop from all)) (t ∙ sym u) (λ i lt.
+      ext_get_or x (take count (row_values rs)) (take count (drop from all)) (t ∙ sym u) (λ i lt.
       let small : i < count = omega (arith, lt, t) in
-      get_or-take count (in_rows rs) i x small
+      get_or-take count (row_values rs) i x small
       ∙ at-row all from (from + (count - 1)) rs h i x (omega (arith, small, few))
       (omega (arith, small))
       ∙ sym (get_or-drop from all i x)

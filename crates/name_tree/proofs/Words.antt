@@ -11,7 +11,7 @@ use Rattle.std.proofs.lemmas.Bool.Decides.{nat_tests}
 use Rattle.std.proofs.lemmas.Cmp.{ranked}
 use Rattle.std.proofs.lemmas.List.{get_or-drop, drop-drop, length-drop, length-take-le}
 use Rattle.omos_model.specs.Names.{name_cmp}
-use Rattle.name_tree.specs.Order.{number_of}
+use Rattle.name_tree.specs.Order.{number_before}
 
 -- each is a byte
 abbrev pub AreBytes : List ℕ → Type 0
@@ -53,7 +53,7 @@ then_then Greater p q = refl
 
 words : (m n k : ℕ) (xs ys : List ℕ) → k ≤ length xs → k ≤ length ys → AreBytes xs → AreBytes ys
     → ordering_then (nat_cmp m n) (slice_cmp nat_cmp xs ys)
-    ≡ ordering_then (nat_cmp (number_of m (take k xs)) (number_of n (take k ys)))
+    ≡ ordering_then (nat_cmp (number_before m (take k xs)) (number_before n (take k ys)))
     (slice_cmp nat_cmp (drop k xs) (drop k ys))
 words m n zero xs ys p q a b = refl
 words m n (suc k) [] ys p q a b = absurd (omega arith)
@@ -70,10 +70,10 @@ eight : (at : ℕ) (xs ys : List ℕ) → at + 8 ≤ length xs → at + 8 ≤ le
     → AreBytes ys
     → slice_cmp nat_cmp (drop at xs) (drop at ys)
     ≡ ordering_then
-    (nat_cmp (number_of 0 (take 8 (drop at xs))) (number_of 0 (take 8 (drop at ys))))
+    (nat_cmp (number_before 0 (take 8 (drop at xs))) (number_before 0 (take 8 (drop at ys))))
     (slice_cmp nat_cmp (drop (at + 8) xs) (drop (at + 8) ys))
 eight at xs ys p q a b =
-    let o = nat_cmp (number_of 0 (take 8 (drop at xs))) (number_of 0 (take 8 (drop at ys))) in
+    let o = nat_cmp (number_before 0 (take 8 (drop at xs))) (number_before 0 (take 8 (drop at ys))) in
     words 0 0 8 (drop at xs) (drop at ys) (omega (arith, length-drop at xs))
     (omega (arith, length-drop at ys))
     (bytes_drop at xs a) (bytes_drop at ys b)
@@ -92,14 +92,14 @@ decided x y o n = go (nat_cmp x y) refl (ranked x y (nat_cmp x y) refl)
 
 pub word_decides : (at x y : ℕ) (xs ys : List ℕ) → at + 8 ≤ length xs → at + 8 ≤ length ys
     → AreBytes xs
-    → AreBytes ys → x ≡ number_of 0 (take 8 (drop at xs)) → y ≡ number_of 0 (take 8 (drop at ys))
+    → AreBytes ys → x ≡ number_before 0 (take 8 (drop at xs)) → y ≡ number_before 0 (take 8 (drop at ys))
     → x ≢ y
     → nat_lt x y ≡ is_lt (name_cmp (drop at xs) (drop at ys))
 word_decides at x y xs ys p q a b e f n =
     let rest = slice_cmp nat_cmp (drop (at + 8) xs) (drop (at + 8) ys) in
     decided x y rest n
     ∙ ap (λ m. is_lt (ordering_then (nat_cmp m y) rest)) e
-    ∙ ap (λ m. is_lt (ordering_then (nat_cmp (number_of 0 (take 8 (drop at xs))) m) rest)) f
+    ∙ ap (λ m. is_lt (ordering_then (nat_cmp (number_before 0 (take 8 (drop at xs))) m) rest)) f
     ∙ sym (ap is_lt (eight at xs ys p q a b))
 
 -- where they are the same, the rest does
@@ -108,18 +108,18 @@ level x y e = grind (arith, nat_tests, e)
 
 pub word_passes : (at x y : ℕ) (xs ys : List ℕ) → at + 8 ≤ length xs → at + 8 ≤ length ys
     → AreBytes xs
-    → AreBytes ys → x ≡ number_of 0 (take 8 (drop at xs)) → y ≡ number_of 0 (take 8 (drop at ys))
+    → AreBytes ys → x ≡ number_before 0 (take 8 (drop at xs)) → y ≡ number_before 0 (take 8 (drop at ys))
     → x ≡ y
     → name_cmp (drop (at + 8) xs) (drop (at + 8) ys) ≡ name_cmp (drop at xs) (drop at ys)
 word_passes at x y xs ys p q a b e f s =
     let rest = slice_cmp nat_cmp (drop (at + 8) xs) (drop (at + 8) ys) in
     sym (eight at xs ys p q a b
     ∙ ap (λ o. ordering_then o rest)
-    (level (number_of 0 (take 8 (drop at xs))) (number_of 0 (take 8 (drop at ys)))
+    (level (number_before 0 (take 8 (drop at xs))) (number_before 0 (take 8 (drop at ys)))
     (sym e ∙ s ∙ f)))
 
 -- a number read from eight bytes
-eight_read : (xs : List ℕ) → length xs ≡ 8 → from_be_bytes w64 xs ≡ number_of 0 xs
+eight_read : (xs : List ℕ) → length xs ≡ 8 → from_be_bytes w64 xs ≡ number_before 0 xs
 eight_read (b0 ∷ b1 ∷ b2 ∷ b3 ∷ b4 ∷ b5 ∷ b6 ∷ b7 ∷ []) e = omega arith
 eight_read (b0 ∷ b1 ∷ b2 ∷ b3 ∷ b4 ∷ b5 ∷ b6 ∷ b7 ∷ b8 ∷ bs) e = absurd (omega arith)
 eight_read [] e = absurd (omega arith)
@@ -132,7 +132,7 @@ eight_read (b0 ∷ b1 ∷ b2 ∷ b3 ∷ b4 ∷ b5 ∷ []) e = absurd (omega arit
 eight_read (b0 ∷ b1 ∷ b2 ∷ b3 ∷ b4 ∷ b5 ∷ b6 ∷ []) e = absurd (omega arith)
 
 pub word_is : (at : ℕ) (xs : List ℕ) → at + 8 ≤ length xs
-    → from_be_bytes w64 (take 8 (drop at xs)) ≡ number_of 0 (take 8 (drop at xs))
+    → from_be_bytes w64 (take 8 (drop at xs)) ≡ number_before 0 (take 8 (drop at xs))
 word_is at xs l =
     eight_read (take 8 (drop at xs))
     (length-take-le 8 (drop at xs) (omega (arith, length-drop at xs)))

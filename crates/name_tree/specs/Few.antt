@@ -3,8 +3,8 @@ use Rattle.std.specs.Prelude.{◌≡◌, ℕ, ◌+◌, ◌<◌, ◌≤◌, List,
 use Rattle.std.specs.List.{flat_map}
 
 -- the values of rows
-abbrev pub in_rows : {X : Type 0} → List (List X) → List X
-in_rows rows = flat_map (λ row. row) rows
+abbrev pub row_values : {X : Type 0} → List (List X) → List X
+row_values rows = flat_map (λ row. row) rows
 
 -- eight of the values, from a number on; behind the last number stand any
 pub record IsRow {X : Type 0} (xs : List X) (at last : ℕ) (row : List X) : Type 0 where

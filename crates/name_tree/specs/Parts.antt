@@ -6,9 +6,9 @@ use Rattle.name_tree.specs.declared.joint.Parts.TheVariants.{One, Two}
 use Rattle.name_tree.specs.declared.root.Root.{Root}
 use Rattle.name_tree.specs.declared.root.Root.TheVariants.{Small, Few, Many}
 
-abbrev pub parts_of : {X : Type 0} → Parts X → List X
-parts_of (One parts) = parts
-parts_of (Two parts) = parts
+abbrev pub one_list : {X : Type 0} → Parts X → List X
+one_list (One parts) = parts
+one_list (Two parts) = parts
 
 abbrev pub branches_of : Root → List (List Space)
 branches_of (Small branches) = branches

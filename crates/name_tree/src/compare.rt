@@ -3,14 +3,14 @@
 ghost use Rattle.std.specs.Prelude.{◌≡◌, ◌+◌, ◌≤◌, length, take, drop};
 ghost use Rattle.std.specs.Ordering.{is_lt};
 ghost use Rattle.omos_model.specs.Names.{name_cmp};
-ghost use Rattle.name_tree.specs.Order.{number_of};
+ghost use Rattle.name_tree.specs.Order.{number_before};
 
 use omos_base::PathName;
 
 /// The eight bytes from a position on as a number, the first byte the highest.
 fn word_at(bytes: &[u8], at: usize) -> u64
     requires { at + 8 ≤ length bytes.now }
-    ensures { result ≡ number_of 0 (take 8 (drop at bytes.now)) }
+    ensures { result ≡ number_before 0 (take 8 (drop at bytes.now)) }
 {
     match bytes.split_at(at).1.first_chunk::<8>() {
         Some(word) => u64::from_be_bytes(*word),

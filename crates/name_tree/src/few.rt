@@ -38,15 +38,15 @@ pub struct Few<T> {
 impl<T> Model for Few<T> {
     ghost use Rattle.std.specs.Prelude.{◌≡◌, ◌≤◌, List, length, take};
     ghost use Rattle.std.specs.Coded.{coded_list};
-    ghost use Rattle.name_tree.specs.Few.{in_rows};
+    ghost use Rattle.name_tree.specs.Few.{row_values};
 
     ghost Value = { List T };
 
     ghost coded = { coded_list T.code };
 
-    ghost view = { λ few. take few.count (in_rows few.rows) };
+    ghost view = { λ few. take few.count (row_values few.rows) };
 
-    ghost invariant = { λ few. (few.count ≤ 64) × (length few.rows ≡ 8) × (length (in_rows few.rows) ≡ 64) };
+    ghost invariant = { λ few. (few.count ≤ 64) × (length few.rows ≡ 8) × (length (row_values few.rows) ≡ 64) };
 }
 
 impl<T> Few<T> {

@@ -2,7 +2,7 @@
 
 ghost use Rattle.std.specs.Prelude.{◌≡◌, ◌<◌, ◌≤◌, ◌++◌, [], suc, length, take, drop, get_or, IfOk};
 ghost use Rattle.name_tree.specs.Tree.{parted};
-ghost use Rattle.name_tree.specs.Parts.{parts_of};
+ghost use Rattle.name_tree.specs.Parts.{one_list};
 
 use crate::few::{Few, Owned};
 use omos_base::{NoMemory, Shared};
@@ -18,7 +18,7 @@ pub enum Parts<T> {
 impl<T> Parts<T> {
     /// The parts.
     pub fn as_slice(&self) -> &[T]
-        ensures { result.now ≡ parts_of self.now }
+        ensures { result.now ≡ one_list self.now }
     {
         match self {
             Parts::One(parts) => parts.as_slice(),
@@ -47,7 +47,7 @@ pub fn parted_of<T: Owned>(
 ) -> Result<Parts<Shared<Few<T>>>, NoMemory>
     requires some { 0 < length (front.now ++ new.now ++ back.now) }
     requires few { length (front.now ++ new.now ++ back.now) ≤ 65 }
-    ensures { IfOk result (λ parts. parts_of parts ≡ parted (front.now ++ new.now ++ back.now)) }
+    ensures { IfOk result (λ parts. one_list parts ≡ parted (front.now ++ new.now ++ back.now)) }
 {
     let count = count_of(front, new, back);
     if count == 65 {

@@ -15,9 +15,9 @@ use Rattle.std.proofs.lemmas.List.Sorted.{IsPermutation-insert}
 use Rattle.omos_model.specs.ImageParts.{is_range, top}
 use Rattle.omos_model.specs.Names.{Name}
 use Rattle.omos_model.specs.Places.{past, past_of, serves, held, place_for, Stands, CanJoin}
-use Rattle.place_book.specs.Laws.{IsFree, IsPlace}
-use Rattle.place_book.specs.Books.{IsKept, IsPlacement}
-use Rattle.place_book.specs.Spans.{span_of, after, begins_after, IsSpan}
+use Rattle.place_book.specs.Laws.{IsFreePlace, IsPlace}
+use Rattle.place_book.specs.Books.{AreSpansOf, IsPlacement}
+use Rattle.place_book.specs.Spans.{span_of, next_base, begins_after, IsSpan}
 use Rattle.omos_model.specs.declared.placement.Placement.{Placement}
 use Rattle.omos_model.specs.declared.placement.Place.TheVariants.{Held, New, NoRoom}
 use Rattle.place_book.specs.declared.span.Span.{Span}
@@ -61,11 +61,11 @@ All-unmap P f (x ∷ xs) a =
     All-cons (λ y. P (f y)) x xs (All-head P (f x) (map f xs) a)
     (All-unmap P f xs (All-tail P (f x) (map f xs) a))
 
-spans_all : (P : Span → Type 0) (ps : List Placement) (ss : List Span) → IsKept ps ss
+spans_all : (P : Span → Type 0) (ps : List Placement) (ss : List Span) → AreSpansOf ps ss
     → All (λ p. P (span_of p)) ps → All P ss
 spans_all P ps ss k a = All-permutation P (map span_of ps) ss k.same (All-map P span_of ps a)
 
-placed_all : (P : Span → Type 0) (ps : List Placement) (ss : List Span) → IsKept ps ss → All P ss
+placed_all : (P : Span → Type 0) (ps : List Placement) (ss : List Span) → AreSpansOf ps ss → All P ss
     → All (λ p. P (span_of p)) ps
 placed_all P ps ss k a =
     All-unmap P span_of ps
@@ -74,19 +74,19 @@ placed_all P ps ss k a =
 range_of : (p : Placement) → IsPlacement p → IsRange p.base (past_of p)
 range_of p h = range_is p.base (past_of p) h.range
 
-pub spans : (ps : List Placement) (ss : List Span) → IsKept ps ss → All IsSpan ss
+pub spans : (ps : List Placement) (ss : List Span) → AreSpansOf ps ss → All IsSpan ss
 spans ps ss k =
     spans_all IsSpan ps ss k
     (All-weaker IsPlacement (λ p. IsSpan (span_of p))
     (λ p h. ((range_of p h).some, omega (arith, (range_of p h).high))) ps k.each)
 
-proper : (ps : List Placement) (ss : List Span) → IsKept ps ss → All IsProper ss
+proper : (ps : List Placement) (ss : List Span) → AreSpansOf ps ss → All IsProper ss
 proper ps ss k = All-weaker IsSpan IsProper (λ s h. h.0) ss (spans ps ss k)
 
 abbrev IsOnPage : Span → Type 0
 IsOnPage s = s.past % 4096 ≡ 0
 
-on_page : (ps : List Placement) (ss : List Span) → IsKept ps ss → All IsOnPage ss
+on_page : (ps : List Placement) (ss : List Span) → AreSpansOf ps ss → All IsOnPage ss
 on_page ps ss k =
     spans_all IsOnPage ps ss k
     (All-weaker IsPlacement (λ p. IsOnPage (span_of p)) (λ p h. (range_of p h).high_page) ps k.each)
@@ -109,17 +109,17 @@ held_place ps path pages lo hi base e =
     sym (from_words ps path pages lo hi (Held base)
     (held_by (held ps path pages lo hi) base (sym e)))
 
-least : (ps : List Placement) (ss : List Span) (pages lo hi other : ℕ) → IsKept ps ss
-    → IsFree ps pages lo hi other → fold (after (4096 * pages)) lo ss ≤ other
+least : (ps : List Placement) (ss : List Span) (pages lo hi other : ℕ) → AreSpansOf ps ss
+    → IsFreePlace ps pages lo hi other → fold (next_base (4096 * pages)) lo ss ≤ other
 least ps ss pages lo hi other k f =
     fold_least (4096 * pages) lo other ss f.low
     (spans_all (IsClear (4096 * pages) other) ps ss k f.apart)
 
-free_at : (ps : List Placement) (ss : List Span) (pages lo hi : ℕ) → IsKept ps ss → IsRange lo hi
-    → past (fold (after (4096 * pages)) lo ss) pages ≤ hi
-    → IsFree ps pages lo hi (fold (after (4096 * pages)) lo ss)
+free_at : (ps : List Placement) (ss : List Span) (pages lo hi : ℕ) → AreSpansOf ps ss → IsRange lo hi
+    → past (fold (next_base (4096 * pages)) lo ss) pages ≤ hi
+    → IsFreePlace ps pages lo hi (fold (next_base (4096 * pages)) lo ss)
 free_at ps ss pages lo hi k r high =
-    let base = fold (after (4096 * pages)) lo ss in
+    let base = fold (next_base (4096 * pages)) lo ss in
     record {
       page = fold_page (4096 * pages) lo ss r.low_page (on_page ps ss k);
       low = fold_rises (4096 * pages) lo ss;
@@ -129,22 +129,22 @@ free_at ps ss pages lo hi k r high =
     }
 
 pub new_place : (ps : List Placement) (ss : List Span) (path : Name) (pages lo hi base : ℕ)
-    → IsKept ps ss
+    → AreSpansOf ps ss
     → IsTrue (is_range lo hi) → None ≡ option_map (λ p. p.base) (held ps path pages lo hi)
-    → base ≡ fold (after (4096 * pages)) lo ss → past base pages ≤ hi
+    → base ≡ fold (next_base (4096 * pages)) lo ss → past base pages ≤ hi
     → New base ≡ place_for ps path pages lo hi
 new_place ps ss path pages lo hi base k r u e high =
-    let words : IsPlace ps path pages lo hi (New (fold (after (4096 * pages)) lo ss)) = (
+    let words : IsPlace ps path pages lo hi (New (fold (next_base (4096 * pages)) lo ss)) = (
       unheld (held ps path pages lo hi) (sym u),
       free_at ps ss pages lo hi k (range_is lo hi r) (subst (λ b. past b pages ≤ hi) e high),
       λ other f. least ps ss pages lo hi other k f,
     ) in
-    ap New e ∙ sym (from_words ps path pages lo hi (New (fold (after (4096 * pages)) lo ss)) words)
+    ap New e ∙ sym (from_words ps path pages lo hi (New (fold (next_base (4096 * pages)) lo ss)) words)
 
 pub no_place : (ps : List Placement) (ss : List Span) (path : Name) (pages lo hi base : ℕ)
-    → IsKept ps ss
+    → AreSpansOf ps ss
     → None ≡ option_map (λ p. p.base) (held ps path pages lo hi)
-    → base ≡ fold (after (4096 * pages)) lo ss → hi < past base pages
+    → base ≡ fold (next_base (4096 * pages)) lo ss → hi < past base pages
     → NoRoom ≡ place_for ps path pages lo hi
 no_place ps ss path pages lo hi base k u e high =
     sym (from_words ps path pages lo hi NoRoom (
@@ -154,8 +154,8 @@ no_place ps ss path pages lo hi base k u e high =
 
 -- ---- where it stands
 
-pub new_stands : (ps : List Placement) (ss : List Span) (pages lo hi base : ℕ) → IsKept ps ss
-    → IsTrue (is_range lo hi) → base ≡ fold (after (4096 * pages)) lo ss → past base pages ≤ hi
+pub new_stands : (ps : List Placement) (ss : List Span) (pages lo hi base : ℕ) → AreSpansOf ps ss
+    → IsTrue (is_range lo hi) → base ≡ fold (next_base (4096 * pages)) lo ss → past base pages ≤ hi
     → Stands (New base) pages
 new_stands ps ss pages lo hi base k r e high =
     let range = range_is lo hi r in (
@@ -189,7 +189,7 @@ found_serves path pages lo hi (q ∷ ps) p all e =
     go false d k i = i k
 
 pub held_stands : (ps : List Placement) (ss : List Span) (path : Name) (pages lo hi base : ℕ)
-    → IsKept ps ss
+    → AreSpansOf ps ss
     → Some base ≡ option_map (λ p. p.base) (held ps path pages lo hi) → Stands (Held base) pages
 held_stands ps ss path pages lo hi base k e =
     let h = held_by (held ps path pages lo hi) base (sym e) in
@@ -197,10 +197,10 @@ held_stands ps ss path pages lo hi base k e =
 
 -- ---- one placement more
 
-pub joined : (ps : List Placement) (ss : List Span) (p : Placement) (at : ℕ) → IsKept ps ss
+pub joined : (ps : List Placement) (ss : List Span) (p : Placement) (at : ℕ) → AreSpansOf ps ss
     → CanJoin ps p
     → IsPlacement p → at ≡ position_or_len (begins_after p.base) ss
-    → IsKept (ps ++ p ∷ []) (insert ss at (span_of p))
+    → AreSpansOf (ps ++ p ∷ []) (insert ss at (span_of p))
 joined ps ss p at k c g e = record {
   same = rw (map_push span_of ps p)
       (IsPermutation-trans _ _ _ (IsPermutation-to_front (map span_of ps) (span_of p))

@@ -8,7 +8,7 @@ use Rattle.std.proofs.lemmas.List.Elements.{All-cons, All-head, All-tail, All-ni
 use Rattle.omos_model.proofs.Names.{same_name-refl}
 use Rattle.omos_model.specs.Names.{Name, same_name}
 use Rattle.omos_model.specs.Places.{past, past_of, serves, place_for, IsApart, CanJoin, Grows}
-use Rattle.place_book.specs.Laws.{IsFree, IsPlace, HeldStays, NoRoomStays, NewIsHeld}
+use Rattle.place_book.specs.Laws.{IsFreePlace, IsPlace, HeldStays, NoRoomStays, NewIsHeld}
 use Rattle.omos_model.specs.declared.placement.Placement.{Placement}
 use Rattle.omos_model.specs.declared.placement.Place.TheVariants.{Held, New, NoRoom}
 use Rattle.place_book.proofs.Words.{to_words, from_words}
@@ -46,7 +46,7 @@ All-front P (x ∷ xs) ys a =
     All-cons P x xs (All-head P x (xs ++ ys) a) (All-front P xs ys (All-tail P x (xs ++ ys) a))
 
 free_before : (book more : List Placement) (pages lo hi base : ℕ)
-    → IsFree (book ++ more) pages lo hi base → IsFree book pages lo hi base
+    → IsFreePlace (book ++ more) pages lo hi base → IsFreePlace book pages lo hi base
 free_before book more pages lo hi base f = record {
   page = f.page;
   low = f.low;
@@ -62,13 +62,13 @@ shrink base pages more p le (inr c) = inr c
 -- what joined and serves was room before
 served_room : (book : List Placement) (p : Placement) (path : Name) (pages lo hi : ℕ)
     → CanJoin book p →
-    serves path pages lo hi p ≡ true → IsFree book pages lo hi p.base
+    serves path pages lo hi p ≡ true → IsFreePlace book pages lo hi p.base
 served_room book p path pages lo hi c s =
     go (same_name path p.path) (nat_le pages p.pages) (nat_le lo p.base) (nat_le (past_of p) hi)
     refl refl refl s where
       go : (n a b d : Bool) → nat_le pages p.pages ≡ a → nat_le lo p.base ≡ b
           → nat_le (past_of p) hi ≡ d → (n && a && b && d) ≡ true →
-          IsFree book pages lo hi p.base
+          IsFreePlace book pages lo hi p.base
       go true true true true pa pb pd h =
           let le : pages ≤ p.pages = grind (arith, nat_tests, pa) in
           let low : lo ≤ p.base = grind (arith, nat_tests, pb) in

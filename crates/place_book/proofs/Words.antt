@@ -9,7 +9,7 @@ use Rattle.omos_model.specs.Names.{Name}
 use Rattle.omos_model.specs.Numbers.{numbers_from}
 use Rattle.omos_model.specs.Places.{past, past_of, is_apart, is_free, least_free, held}
 use Rattle.omos_model.specs.Places.{unless_held, place_for, IsApart}
-use Rattle.place_book.specs.Laws.{IsFree, IsPlace, PlaceLaw}
+use Rattle.place_book.specs.Laws.{IsFreePlace, IsPlace, PlaceLaw}
 use Rattle.omos_model.specs.declared.placement.Placement.{Placement}
 use Rattle.omos_model.specs.declared.placement.Place.{Place}
 use Rattle.omos_model.specs.declared.placement.Place.TheVariants.{Held, New, NoRoom}
@@ -115,13 +115,13 @@ apart_all from to (p ∷ ps) a =
     (apart_all from to ps (All-tail (IsApart from to) p ps a))
 
 pub free_true : (book : List Placement) (pages lo hi base : ℕ) → base % 4096 ≡ 0
-    → is_free book pages lo hi base ≡ true → IsFree book pages lo hi base
+    → is_free book pages lo hi base ≡ true → IsFreePlace book pages lo hi base
 free_true book pages lo hi base page e =
     go (nat_le lo base) (nat_le (past base pages) hi) refl refl e
   where
     go : (a b : Bool) → nat_le lo base ≡ a → nat_le (past base pages) hi ≡ b
         → (a && b && list_all (is_apart base (past base pages)) book) ≡ true
-        → IsFree book pages lo hi base
+        → IsFreePlace book pages lo hi base
     go true true l h k = record {
       page = page;
       low = grind (arith, nat_tests, l);
@@ -131,7 +131,7 @@ free_true book pages lo hi base page e =
     go true false l h k = absurd (true≢false (sym k))
     go false b l h k = absurd (true≢false (sym k))
 
-pub free_from : (book : List Placement) (pages lo hi base : ℕ) → IsFree book pages lo hi base
+pub free_from : (book : List Placement) (pages lo hi base : ℕ) → IsFreePlace book pages lo hi base
     → is_free book pages lo hi base ≡ true
 free_from book pages lo hi base f =
     let l : nat_le lo base ≡ true = grind (arith, nat_tests, f.low) in
@@ -141,7 +141,7 @@ free_from book pages lo hi base f =
 -- ---- the least that is free
 
 -- a free base is one of those that are tried
-number_of : (book : List Placement) (pages lo hi base : ℕ) → IsFree book pages lo hi base
+number_of : (book : List Placement) (pages lo hi base : ℕ) → IsFreePlace book pages lo hi base
     → (n : ℕ) × (base ≡ start n) × (lo / 4096 ≤ n) × (n < lo / 4096 + (hi / 4096 + 1))
 number_of book pages lo hi base f =
     let page = f.page in
@@ -150,12 +150,12 @@ number_of book pages lo hi base f =
     (base / 4096, omega arith, omega arith, omega arith)
 
 least : (book : List Placement) (pages lo hi base : ℕ) → least_free book pages lo hi ≡ Some base
-    → IsFree book pages lo hi base × ((other : ℕ) → IsFree book pages lo hi other → base ≤ other)
+    → IsFreePlace book pages lo hi base × ((other : ℕ) → IsFreePlace book pages lo hi other → base ≤ other)
 least book pages lo hi base e =
     go (first (is_free book pages lo hi) (lo / 4096) (hi / 4096 + 1) base e)
   where
     below : (n other : ℕ) → base ≡ start n → IsFirst (is_free book pages lo hi) (lo / 4096) n
-        → IsFree book pages lo hi other → base ≤ other
+        → IsFreePlace book pages lo hi other → base ≤ other
     below n other same f free = by (number_of book pages lo hi other free)
       where
         by : (m : ℕ) × (other ≡ start m) × (lo / 4096 ≤ m) × (m < lo / 4096 + (hi / 4096 + 1))
@@ -171,8 +171,8 @@ least book pages lo hi base e =
                 ∙ ap (is_free book pages lo hi) h.1 ∙ f.before h.0 h.2 l))
 
     go : (n : ℕ) × (base ≡ start n) × IsFirst (is_free book pages lo hi) (lo / 4096) n
-        → IsFree book pages lo hi base
-        × ((other : ℕ) → IsFree book pages lo hi other → base ≤ other)
+        → IsFreePlace book pages lo hi base
+        × ((other : ℕ) → IsFreePlace book pages lo hi other → base ≤ other)
     go h =
         let same = h.1 in (
           free_true book pages lo hi base (omega arith) (ap (is_free book pages lo hi) same
@@ -181,7 +181,7 @@ least book pages lo hi base e =
         )
 
 nothing_free : (book : List Placement) (pages lo hi base : ℕ) → least_free book pages lo hi ≡ None
-    → IsFree book pages lo hi base → ⊥
+    → IsFreePlace book pages lo hi base → ⊥
 nothing_free book pages lo hi base e f = go (number_of book pages lo hi base f)
   where
     go : (n : ℕ) × (base ≡ start n) × (lo / 4096 ≤ n) × (n < lo / 4096 + (hi / 4096 + 1)) → ⊥

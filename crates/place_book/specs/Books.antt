@@ -20,7 +20,7 @@ pub record IsPlacement (p : Placement) : Type 0 where
   pub range : IsTrue (is_range p.base (past_of p))
 
 -- the spans are the placements', in order
-pub record IsKept (placements : List Placement) (spans : List Span) : Type 0 where
+pub record AreSpansOf (placements : List Placement) (spans : List Span) : Type 0 where
   pub same : IsPermutation (map span_of placements) spans
   pub each : All IsPlacement placements
   pub order : AreInOrder spans

@@ -10,7 +10,7 @@ use Rattle.omos_model.specs.declared.placement.Place.TheVariants.{Held, New, NoR
 -- ---- a place in words
 
 -- so many pages at the base begin at a page, lie in lo to hi and meet no placement
-pub record IsFree (book : List Placement) (pages lo hi base : ℕ) : Type 0 where
+pub record IsFreePlace (book : List Placement) (pages lo hi base : ℕ) : Type 0 where
   pub page : base % 4096 ≡ 0
   pub low : lo ≤ base
   pub high : past base pages ≤ hi
@@ -25,10 +25,10 @@ abbrev pub IsPlace : List Placement → Name → ℕ → ℕ → ℕ → Place �
 IsPlace book path pages lo hi (Held base) =
     (p : Placement) × (held book path pages lo hi ≡ Some p) × (p.base ≡ base)
 IsPlace book path pages lo hi (New base) =
-    IsUnheld book path pages lo hi × IsFree book pages lo hi base
-    × ((other : ℕ) → IsFree book pages lo hi other → base ≤ other)
+    IsUnheld book path pages lo hi × IsFreePlace book pages lo hi base
+    × ((other : ℕ) → IsFreePlace book pages lo hi other → base ≤ other)
 IsPlace book path pages lo hi NoRoom =
-    IsUnheld book path pages lo hi × ((base : ℕ) → IsFree book pages lo hi base → ⊥)
+    IsUnheld book path pages lo hi × ((base : ℕ) → IsFreePlace book pages lo hi base → ⊥)
 
 abbrev pub PlaceLaw : Type 0
 PlaceLaw =

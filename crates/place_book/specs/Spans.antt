@@ -14,8 +14,8 @@ abbrev pub meets : ℕ → ℕ → Span → Bool
 meets bytes base s = nat_lt s.base (base + bytes) && nat_lt base s.past
 
 -- the next base to try, once the span is seen
-abbrev pub after : ℕ → ℕ → Span → ℕ
-after bytes base s = if meets bytes base s then s.past else base
+abbrev pub next_base : ℕ → ℕ → Span → ℕ
+next_base bytes base s = if meets bytes base s then s.past else base
 
 abbrev pub begins_after : ℕ → Span → Bool
 begins_after base s = nat_lt base s.base

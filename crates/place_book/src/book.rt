@@ -30,14 +30,14 @@ pub struct Book {
 impl Model for Book {
     ghost use Rattle.std.specs.Prelude.{◌≡◌, ◌≤◌, map, vec_len, vec_capacity};
     ghost use Rattle.place_book.specs.Keys.{key_of_placement};
-    ghost use Rattle.place_book.specs.Books.{BookParts, IsKept};
+    ghost use Rattle.place_book.specs.Books.{BookParts, AreSpansOf};
 
     ghost Value = { BookParts };
 
     ghost view = { λ b. record { placements = b.placed.items; capacity = b.capacity } };
 
     ghost invariant = { λ b.
-        IsKept b.placed.items b.spans.items
+        AreSpansOf b.placed.items b.spans.items
         × (vec_len b.placed ≤ b.capacity) × (b.capacity ≤ vec_capacity b.placed)
         × (vec_len b.spans ≡ vec_len b.placed) × (b.capacity ≤ vec_capacity b.spans)
         × (b.keys.items ≡ map key_of_placement b.placed.items)

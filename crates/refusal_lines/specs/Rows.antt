@@ -25,6 +25,6 @@ abbrev pub coded_in : Row → Coded
 coded_in r = coded r.name.now r.code (fields_in r.fields)
 
 -- a row fits what it is put into: its name is short, and its fields are what they are said to be
-pub record IsRow (r : Row) : Type 0 where
+pub record IsShortRow (r : Row) : Type 0 where
   pub name : length r.name.now ≤ 3
   pub fields : AllByRecursion IsField (fields_in r.fields)

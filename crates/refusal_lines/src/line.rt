@@ -4,7 +4,7 @@ ghost use Rattle.std.specs.Prelude.{◌≡◌, ◌+◌, ◌≤◌, ◌∷◌, []
 ghost use Rattle.std.specs.List.{AllByRecursion, flat_map};
 ghost use Rattle.arrayvec.specs.ArrayVec.{array_vec_len};
 ghost use Rattle.refusal_lines.specs.Codes.{coded_line, field_text, IsField};
-ghost use Rattle.refusal_lines.specs.Rows.{coded_in, field_in, fields_in, IsRow};
+ghost use Rattle.refusal_lines.specs.Rows.{coded_in, field_in, fields_in, IsShortRow};
 
 use crate::row::{Field, Fields, Row};
 use arrayvec::ArrayVec;
@@ -107,7 +107,7 @@ fn put_fields(line: &mut Text, fields: &Fields<'_>)
 
 /// The line of a row.
 pub(crate) fn line_of_row(row: &Row<'_>) -> Line
-    requires { IsRow row.now }
+    requires { IsShortRow row.now }
     ensures { result ≡ coded_line (coded_in row.now) }
 {
     let mut text = Text::new();

@@ -4,7 +4,7 @@ ghost use Rattle.std.specs.Prelude.{◌≡◌, ◌^◌, ◌<◌, ◌≤◌, ◌�
 ghost use Rattle.refusal_lines.specs.Codes.{coded, path_row, object_row, text_row, link_row};
 ghost use Rattle.refusal_lines.specs.Codes.{row_of, IsField};
 ghost use Rattle.refusal_lines.specs.Codes as table;
-ghost use Rattle.refusal_lines.specs.Rows.{coded_in, field_in, IsRow};
+ghost use Rattle.refusal_lines.specs.Rows.{coded_in, field_in, IsShortRow};
 
 use crate::refused::Refused;
 use crate::row::{Field, Fields, Row};
@@ -15,7 +15,7 @@ use omos_model::{BpFault, ObjectFault, Refusal, Site};
 fn plain<'a>(name: &'static [u8], code: u8) -> Row<'a>
     requires { length name.now ≤ 3 }
     ensures row { coded_in result ≡ coded name.now code [] }
-    ensures fits { IsRow result }
+    ensures fits { IsShortRow result }
 {
     Row {
         name,
@@ -28,7 +28,7 @@ fn plain<'a>(name: &'static [u8], code: u8) -> Row<'a>
 fn numbered<'a>(name: &'static [u8], code: u8, number: u32) -> Row<'a>
     requires { length name.now ≤ 3 }
     ensures row { coded_in result ≡ coded name.now code (table.Number number ∷ []) }
-    ensures fits { IsRow result }
+    ensures fits { IsShortRow result }
 {
     Row {
         name,
@@ -42,7 +42,7 @@ fn paired<'a>(name: &'static [u8], code: u8, first: u32, second: u32) -> Row<'a>
     requires { length name.now ≤ 3 }
     ensures row { coded_in result
         ≡ coded name.now code (table.Number first ∷ table.Number second ∷ []) }
-    ensures fits { IsRow result }
+    ensures fits { IsShortRow result }
 {
     Row {
         name,
@@ -55,7 +55,7 @@ fn paired<'a>(name: &'static [u8], code: u8, first: u32, second: u32) -> Row<'a>
 fn named<'a>(name: &'static [u8], code: u8, symbol: &'a SymName) -> Row<'a>
     requires { length name.now ≤ 3 }
     ensures row { coded_in result ≡ coded name.now code (table.Symbol symbol.now ∷ []) }
-    ensures fits { IsRow result }
+    ensures fits { IsShortRow result }
 {
     Row {
         name,
@@ -69,7 +69,7 @@ fn sited_name<'a>(name: &'static [u8], code: u8, site: &'a Site, symbol: &'a Sym
     requires { length name.now ≤ 3 }
     ensures row { coded_in result
         ≡ coded name.now code (table.sited site.now (table.Symbol symbol.now ∷ [])) }
-    ensures fits { IsRow result }
+    ensures fits { IsShortRow result }
 {
     sited(name, code, site, Field::Symbol(symbol.as_bytes()))
 }
@@ -79,7 +79,7 @@ fn sited_path<'a>(name: &'static [u8], code: u8, site: &'a Site, path: &'a PathN
     requires { length name.now ≤ 3 }
     ensures row { coded_in result
         ≡ coded name.now code (table.sited site.now (table.Path path.now ∷ [])) }
-    ensures fits { IsRow result }
+    ensures fits { IsShortRow result }
 {
     sited(name, code, site, Field::Path(path.as_bytes()))
 }
@@ -90,7 +90,7 @@ fn sited<'a>(name: &'static [u8], code: u8, site: &'a Site, field: Field<'a>) ->
     requires value { IsField (field_in field) }
     ensures row { coded_in result
         ≡ coded name.now code (table.sited site.now (field_in field.entry ∷ [])) }
-    ensures fits { IsRow result }
+    ensures fits { IsShortRow result }
 {
     fits_u32(site.node);
     let path = Field::Path(site.path.as_bytes());
@@ -110,7 +110,7 @@ fn fits_u32(number: u32)
 fn only_site<'a>(name: &'static [u8], code: u8, site: &'a Site) -> Row<'a>
     requires { length name.now ≤ 3 }
     ensures row { coded_in result ≡ coded name.now code (table.sited site.now []) }
-    ensures fits { IsRow result }
+    ensures fits { IsShortRow result }
 {
     fits_u32(site.node);
     let path = Field::Path(site.path.as_bytes());
@@ -124,7 +124,7 @@ fn only_site<'a>(name: &'static [u8], code: u8, site: &'a Site) -> Row<'a>
 /// The row of a path that is none.
 pub fn path_row<'a>(fault: PathFault) -> Row<'a>
     ensures row { coded_in result ≡ path_row fault }
-    ensures fits { IsRow result }
+    ensures fits { IsShortRow result }
 {
     match fault {
         PathFault::Long => plain(b"P1", 1),
@@ -135,7 +135,7 @@ pub fn path_row<'a>(fault: PathFault) -> Row<'a>
 /// The row of an object file with a fault.
 pub fn object_row(fault: &ObjectFault) -> Row<'_>
     ensures row { coded_in result ≡ object_row fault.now }
-    ensures fits { IsRow result }
+    ensures fits { IsShortRow result }
 {
     match fault {
         ObjectFault::Length => plain(b"O1", 11),
@@ -155,7 +155,7 @@ pub fn object_row(fault: &ObjectFault) -> Row<'_>
 /// The row of a text that is none.
 pub fn text_row<'a>(fault: BpFault) -> Row<'a>
     ensures row { coded_in result ≡ text_row fault }
-    ensures fits { IsRow result }
+    ensures fits { IsShortRow result }
 {
     match fault {
         BpFault::Long => plain(b"B1", 31),
@@ -170,7 +170,7 @@ pub fn text_row<'a>(fault: BpFault) -> Row<'a>
 /// The row of a link that has no image.
 pub fn link_row(refusal: &Refusal) -> Row<'_>
     ensures row { coded_in result ≡ link_row refusal.now }
-    ensures fits { IsRow result }
+    ensures fits { IsShortRow result }
 {
     match refusal {
         Refusal::NoEntry { site, path } => sited_path(b"L1", 41, site, path),
@@ -207,7 +207,7 @@ pub fn link_row(refusal: &Refusal) -> Row<'_>
 /// The row of what is refused.
 pub fn row_of(refused: &Refused) -> Row<'_>
     ensures row { coded_in result ≡ row_of refused.now }
-    ensures fits { IsRow result }
+    ensures fits { IsShortRow result }
 {
     match refused {
         Refused::Path(fault) => path_row(*fault),

@@ -8,8 +8,8 @@ use Rattle.omos_model.specs.declared.refusal.BpFault.TheVariants.{Long, Byte, Sh
 use Rattle.omos_model.specs.declared.refusal.BpFault.TheVariants.{Range}
 use Rattle.bp_tree.specs.Tokens.{Token, Open, Close, Word, Barred, Placed, tokens_of}
 use Rattle.bp_tree.specs.Texts.{words_of}
-use Rattle.bp_tree.specs.TextFaults.{Language, Begins, IsTokenFault, StopsAt, HasTokenFault}
-use Rattle.bp_tree.specs.TextFaults.{IsAllowed, IsBarredAt, images}
+use Rattle.bp_tree.specs.TextFaults.{Language, Begins, IsTokenFault, StopsAtToken, HasTokenFault}
+use Rattle.bp_tree.specs.TextFaults.{StandsInTexts, IsBarredAt, images}
 use Rattle.bp_tree.specs.Laws.{NotNeitherLaw}
 use Rattle.bp_tree.proofs.Images.{any_image, token_fault}
 use Rattle.bp_tree.proofs.NameLists.{words-append}
@@ -24,7 +24,7 @@ stop_here : (L : Language) (ts front : List Placed) (t : Placed) (behind : List 
     BpFault)
     → ts ≡ front ++ t ∷ behind → Begins L 0 (words_of front)
     → (Begins L 0 (words_of front ++ t.token ∷ []) → ⊥)
-    → IsTokenFault L (words_of front) t.token t.place fault → StopsAt L ts fault
+    → IsTokenFault L (words_of front) t.token t.place fault → StopsAtToken L ts fault
 stop_here L ts front t behind fault e begins stops why =
     record {
       front = front;
@@ -70,16 +70,16 @@ abbrev at_place : Token → ℕ → Placed
 at_place u place = record { token = u; place = place }
 
 one_allowed : (u : Token) (place : ℕ)
-    → ((byte : ℕ) × (at_place u place ≡ at_place (Barred byte) place)) ⊎ IsAllowed
+    → ((byte : ℕ) × (at_place u place ≡ at_place (Barred byte) place)) ⊎ StandsInTexts
     (at_place u place)
 one_allowed Open place = inr (λ byte e. cc)
 one_allowed Close place = inr (λ byte e. cc)
 one_allowed (Word w) place = inr (λ byte e. cc)
 one_allowed (Barred b) place = inl (b, refl)
 
-search_barred : (ts front behind : List Placed) → ts ≡ front ++ behind → All IsAllowed front
-    → ((place : ℕ) → IsBarredAt ts place → ⊥) → All IsAllowed ts
-search_barred ts front [] e all none = subst (All IsAllowed) (sym (e ∙ append-nil front)) all
+search_barred : (ts front behind : List Placed) → ts ≡ front ++ behind → All StandsInTexts front
+    → ((place : ℕ) → IsBarredAt ts place → ⊥) → All StandsInTexts ts
+search_barred ts front [] e all none = subst (All StandsInTexts) (sym (e ∙ append-nil front)) all
 search_barred ts front (t ∷ behind) e all none =
     elim (one_allowed t.token t.place) [
       | inl b ↦ absurd (none t.place (
@@ -92,8 +92,8 @@ search_barred ts front (t ∷ behind) e all none =
       ))
       | inr allowed ↦
           search_barred ts (front ++ t ∷ []) behind (e ∙ sym (append_assoc front (t ∷ []) behind))
-          (All-append IsAllowed front (t ∷ []) all
-          (All-cons IsAllowed t [] allowed (All-nil IsAllowed))) none
+          (All-append StandsInTexts front (t ∷ []) all
+          (All-cons StandsInTexts t [] allowed (All-nil StandsInTexts))) none
     ]
 
 -- ---- texts
@@ -110,7 +110,7 @@ law text no_image no_fault =
     elim (by_length text) [
       | inr long ↦ no_fault (Long, long)
       | inl short ↦
-          let allowed = search_barred (tokens_of text) [] (tokens_of text) refl (All-nil IsAllowed)
+          let allowed = search_barred (tokens_of text) [] (tokens_of text) refl (All-nil StandsInTexts)
           (λ place b. no_fault (Byte place, (short, b))) in
           walk images (tokens_of text) [] (tokens_of text) (length text) refl any_image
           (λ is. no_image is)

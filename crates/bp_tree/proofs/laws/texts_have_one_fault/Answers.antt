@@ -4,7 +4,7 @@ use Rattle.omos_model.specs.declared.refusal.BpFault.{BpFault}
 use Rattle.omos_model.specs.declared.refusal.BpFault.TheVariants.{Long, Byte, Shape, Deep, Number}
 use Rattle.omos_model.specs.declared.refusal.BpFault.TheVariants.{Range}
 use Rattle.bp_tree.specs.Tokens.{Barred, Placed, tokens_of}
-use Rattle.bp_tree.specs.TextFaults.{IsAllowed, IsBarredAt, IsShaped, IsTextFault}
+use Rattle.bp_tree.specs.TextFaults.{StandsInTexts, IsBarredAt, IsShaped, IsTextFault}
 use Rattle.bp_tree.specs.TextFaults.{images}
 use Rattle.bp_tree.specs.Laws.{OneFaultLaw}
 use Rattle.bp_tree.proofs.SoleFaults.{in_order, not_allowed, one_fault}
@@ -25,14 +25,14 @@ kind_of text (Deep p) h = AtToken h
 kind_of text (Number p) h = AtToken h
 kind_of text (Range p) h = AtToken h
 
-not_shaped : (ts : List Placed) (place : ℕ) → IsBarredAt ts place → All IsAllowed ts → ⊥
-not_shaped ts place b all = not_allowed b.0 b.2 b.1 place (subst (All IsAllowed) b.3 all)
+not_shaped : (ts : List Placed) (place : ℕ) → IsBarredAt ts place → All StandsInTexts ts → ⊥
+not_shaped ts place b all = not_allowed b.0 b.2 b.1 place (subst (All StandsInTexts) b.3 all)
 
 barred_behind : (xs ys more : List Placed) (byte place : ℕ)
-    → ys ≡ (xs ++ record { token = Barred byte; place = place } ∷ []) ++ more → All IsAllowed ys → ⊥
+    → ys ≡ (xs ++ record { token = Barred byte; place = place } ∷ []) ++ more → All StandsInTexts ys → ⊥
 barred_behind xs ys more byte place e all =
     not_allowed xs more byte place
-    (subst (All IsAllowed) (e ∙ append_assoc xs
+    (subst (All StandsInTexts) (e ∙ append_assoc xs
     (record { token = Barred byte; place = place } ∷ []) more) all)
 
 one_byte : (ts : List Placed) (p q : ℕ) → IsBarredAt ts p → IsBarredAt ts q → p ≡ q

@@ -1,7 +1,7 @@
 use Rattle.std.proofs.Common.{[], ◌∷◌, ◌++◌, ◌≡◌, ◌≤◌, ◌-◌, suc, ap, sym, subst, ◌∙◌, codes, arith}
 use Rattle.omos_base.specs.Paths.{IsPath}
 use Rattle.bp_tree.specs.Tokens.{Close, Word}
-use Rattle.bp_tree.specs.Pending.{pending, placed, seen}
+use Rattle.bp_tree.specs.Pending.{pending, placed_first, seen}
 use Rattle.bp_tree.specs.Symbols.{It, AnExpr, Exprs, Fails, arguments, keyword, kind_nesting, form_nesting}
 use Rattle.bp_tree.specs.declared.form.Form.TheVariants as form
 use Rattle.bp_tree.proofs.Arms.{err_arm, fault_onward, onward}
@@ -131,13 +131,13 @@ push_one-returns-in-None t c = expr_early c.args.room (pending c.args.from) c.in
 pub push_one-returns-in-Ok : goal.push_one-returns-in-Ok
 push_one-returns-in-Ok t c =
     let n = c.in-Some.next in
-    path_more c.args.room c.args.operands.now c.push_path.new.operands c.in-Word.word.now (pending c.args.from) (placed n)
+    path_more c.args.room c.args.operands.now c.push_path.new.operands c.in-Word.word.now (pending c.args.from) (placed_first n)
     (pending n.after) c.in-Some.ensures (ap seen c.in-Word.is) c.in-Ok.ensures.0 c.in-Ok.ensures.1
 
 pub push_one-returns-in-Err-Refused : goal.push_one-returns-in-Err-Refused
 push_one-returns-in-Err-Refused t c =
     let n = c.in-Some.next in
-    word_fails c.args.room c.in-Word.word.now (pending c.args.from) (placed n) (pending n.after)
+    word_fails c.args.room c.in-Word.word.now (pending c.args.from) (placed_first n) (pending n.after)
     c.in-Some.ensures (ap seen c.in-Word.is) (rw c.in-Err-Refused.field-0-is at c.in-Err-Refused.ensures)
 
 -- ---- operands
@@ -150,37 +150,37 @@ operands-returns-in-None t c =
 pub operands-returns-in-Close : goal.operands-returns-in-Close
 operands-returns-in-Close t c =
     operands_done c.args.room c.args.given c.operands.operands (pending c.args.from) (pending c.operands.rest)
-    (pending c.in-Some.next.after) (placed c.in-Some.next) c.operands.invariant c.in-Some.ensures (ap seen c.in-Close.is)
+    (pending c.in-Some.next.after) (placed_first c.in-Some.next) c.operands.invariant c.in-Some.ensures (ap seen c.in-Close.is)
 
 pub operands-returns-in-Err-Refused : goal.operands-returns-in-Err-Refused
 operands-returns-in-Err-Refused t c =
     let n = c.in-Some.next in
     operand_fails c.args.room c.args.given c.operands.operands (pending c.args.from) (pending c.operands.rest)
-    (placed n) (pending n.after) _ c.operands.invariant c.in-Some.ensures (not_close n.token c.in-Word.word c.in-Word.is)
-    (word_fails c.args.room c.in-Word.word.now (pending c.operands.rest) (placed n) (pending n.after)
+    (placed_first n) (pending n.after) _ c.operands.invariant c.in-Some.ensures (not_close n.token c.in-Word.word c.in-Word.is)
+    (word_fails c.args.room c.in-Word.word.now (pending c.operands.rest) (placed_first n) (pending n.after)
     c.in-Some.ensures (ap seen c.in-Word.is) (rw c.in-Err-Refused.field-0-is at c.in-Err-Refused.ensures))
 
 pub operands-returns-in-Err : goal.operands-returns-in-Err
 operands-returns-in-Err t c =
     fault_onward _ c.in-Err.fault _ _ (Fails (Exprs c.args.room ∷ []) (pending c.args.from)) c.in-Err.ensures
     (λ stop f. operand_fails c.args.room c.args.given c.operands.operands (pending c.args.from) (pending c.operands.rest)
-    (placed c.in-Some.next) (pending c.in-Some.next.after) stop c.operands.invariant c.in-Some.ensures
+    (placed_first c.in-Some.next) (pending c.in-Some.next.after) stop c.operands.invariant c.in-Some.ensures
     (λ h. seen_close c.in-Some.next.token h c.in_default.not-Close) f)
 
 pub operands-operands-preserved-in-Ok : goal.operands-operands-preserved-in-Ok
 operands-operands-preserved-in-Ok t c =
     let n = c.in-Some.next in
-    let x = path_more c.args.room c.operands.operands c.push_path.new.operands c.in-Word.word.now (pending c.operands.rest) (placed n)
+    let x = path_more c.args.room c.operands.operands c.push_path.new.operands c.in-Word.word.now (pending c.operands.rest) (placed_first n)
     (pending n.after) c.in-Some.ensures (ap seen c.in-Word.is) c.in-Ok.ensures.0 c.in-Ok.ensures.1 in
     operand_more c.args.room c.args.given c.operands.operands c.push_path.new.operands x.0 (pending c.args.from) (pending c.operands.rest)
-    (placed n) (pending n.after) (pending n.after) c.operands.invariant c.in-Some.ensures
+    (placed_first n) (pending n.after) (pending n.after) c.operands.invariant c.in-Some.ensures
     (not_close n.token c.in-Word.word c.in-Word.is) x.2 x.1
 
 pub operands-operands-preserved : goal.operands-operands-preserved
 operands-operands-preserved t c =
     let x = c.in-Ok-push_expr.ensures in
     operand_more c.args.room c.args.given c.operands.operands c.push_expr.new.operands x.0 (pending c.args.from) (pending c.operands.rest)
-    (placed c.in-Some.next) (pending c.in-Some.next.after) (pending c.in-Ok-push_expr.after) c.operands.invariant c.in-Some.ensures
+    (placed_first c.in-Some.next) (pending c.in-Some.next.after) (pending c.in-Ok-push_expr.after) c.operands.invariant c.in-Some.ensures
     (λ h. seen_close c.in-Some.next.token h c.in_default.not-Close) x.2 x.1
 
 pub operands-operands-smaller : goal.operands-operands-smaller
@@ -195,12 +195,12 @@ inside-returns-in-None t c = inside_early c.args.room (pending c.args.from) c.in
 
 pub inside-returns-in_default : goal.inside-returns-in_default
 inside-returns-in_default t c =
-    inside_shape c.args.room (pending c.args.from) (placed c.in-Some.next) (pending c.in-Some.next.after) c.in-Some.ensures
+    inside_shape c.args.room (pending c.args.from) (placed_first c.in-Some.next) (pending c.in-Some.next.after) c.in-Some.ensures
     (λ f h _. seen_word c.in-Some.next.token (keyword f) h (λ w e _. c.in_default.not-Word w e))
 
 pub inside-returns-in-None-named : goal.inside-returns-in-None-named
 inside-returns-in-None-named t c =
-    inside_shape c.args.room (pending c.args.from) (placed c.in-Some.next) (pending c.in-Some.next.after) c.in-Some.ensures
+    inside_shape c.args.room (pending c.args.from) (placed_first c.in-Some.next) (pending c.in-Some.next.after) c.in-Some.ensures
     (λ f h _. c.in-None-named.ensures f (sym (word_is c.in-Some.next.token c.in-Word.word (keyword f) c.in-Word.is h)))
 
 pub inside-returns-in-Some-Merge : goal.inside-returns-in-Some-Merge
@@ -209,9 +209,9 @@ inside-returns-in-Some-Merge t c =
     let is : seen n.token ≡ Word (codes "merge") =
     ap seen c.in-Word.is ∙ ap Word (c.in-Some-Merge.ensures ∙ ap keyword c.in-Some-Merge.field-0-is) in
     onward c.merged.result _ _ _ _ c.merged.ensures
-    (λ v h. form_read c.args.room form.Merge v.0 (pending c.args.from) (placed n) (pending n.after) (pending v.1)
+    (λ v h. form_read c.args.room form.Merge v.0 (pending c.args.from) (placed_first n) (pending n.after) (pending v.1)
     c.in-Some.ensures is (omega arith) h)
-    (λ stop f. form_fails c.args.room form.Merge (pending c.args.from) (placed n) (pending n.after) stop
+    (λ stop f. form_fails c.args.room form.Merge (pending c.args.from) (placed_first n) (pending n.after) stop
     c.in-Some.ensures is (omega arith) f)
 
 pub inside-returns-in-Some-Override : goal.inside-returns-in-Some-Override
@@ -220,9 +220,9 @@ inside-returns-in-Some-Override t c =
     let is : seen n.token ≡ Word (codes "override") =
     ap seen c.in-Word.is ∙ ap Word (c.in-Some-Override.ensures ∙ ap keyword c.in-Some-Override.field-0-is) in
     onward c.overridden.result _ _ _ _ c.overridden.ensures
-    (λ v h. form_read c.args.room form.Override v.0 (pending c.args.from) (placed n) (pending n.after) (pending v.1)
+    (λ v h. form_read c.args.room form.Override v.0 (pending c.args.from) (placed_first n) (pending n.after) (pending v.1)
     c.in-Some.ensures is (omega arith) h)
-    (λ stop f. form_fails c.args.room form.Override (pending c.args.from) (placed n) (pending n.after) stop
+    (λ stop f. form_fails c.args.room form.Override (pending c.args.from) (placed_first n) (pending n.after) stop
     c.in-Some.ensures is (omega arith) f)
 
 pub inside-returns-then-nesting-room : goal.inside-returns-then-nesting-room
@@ -233,16 +233,16 @@ inside-returns-then-nesting-room t c =
     ap seen c.in-Word.is ∙ ap Word (c.in-Some-Apply.ensures ∙ ap keyword c.in-Some-Apply.field-0-is) in
     let fits : kind_nesting k ≤ c.args.room = omega (arith, c.nesting.ensures, c.if-nesting-room.true) in
     onward c.applied.result _ _ _ _ c.applied.ensures
-    (λ v h. form_read c.args.room (form.Apply k) v.0 (pending c.args.from) (placed n) (pending n.after) (pending v.1)
+    (λ v h. form_read c.args.room (form.Apply k) v.0 (pending c.args.from) (placed_first n) (pending n.after) (pending v.1)
     c.in-Some.ensures is fits h)
-    (λ stop f. form_fails c.args.room (form.Apply k) (pending c.args.from) (placed n) (pending n.after) stop
+    (λ stop f. form_fails c.args.room (form.Apply k) (pending c.args.from) (placed_first n) (pending n.after) stop
     c.in-Some.ensures is fits f)
 
 pub inside-returns-else-nesting-room : goal.inside-returns-else-nesting-room
 inside-returns-else-nesting-room t c =
     let n = c.in-Some.next in
     let k = c.in-Some-Apply.kind in
-    inside_shape c.args.room (pending c.args.from) (placed n) (pending n.after) c.in-Some.ensures
+    inside_shape c.args.room (pending c.args.from) (placed_first n) (pending n.after) c.in-Some.ensures
     (λ f h nest.
     let same : f ≡ form.Apply k =
     same_form f (form.Apply k) (word_is n.token c.in-Word.word (keyword f) c.in-Word.is h ∙ c.in-Some-Apply.ensures ∙ ap keyword c.in-Some-Apply.field-0-is) in
@@ -255,25 +255,25 @@ expr-returns-in-None t c = expr_early c.args.room (pending c.args.from) c.in-Non
 
 pub expr-returns-in-Ok : goal.expr-returns-in-Ok
 expr-returns-in-Ok t c =
-    path_read c.args.room c.in-Ok.path (pending c.args.from) (placed c.in-Some.next) (pending c.in-Some.next.after) c.in-Some.ensures
+    path_read c.args.room c.in-Ok.path (pending c.args.from) (placed_first c.in-Some.next) (pending c.in-Some.next.after) c.in-Some.ensures
     (ap seen c.in-Word.is ∙ ap Word (sym c.in-Ok.ensures.0)) (subst IsPath (sym c.in-Ok.ensures.0) c.in-Ok.ensures.1)
 
 pub expr-returns-in-Err : goal.expr-returns-in-Err
 expr-returns-in-Err t c =
-    expr_shape c.args.room (pending c.args.from) (placed c.in-Some.next) (pending c.in-Some.next.after) c.in-Some.ensures
+    expr_shape c.args.room (pending c.args.from) (placed_first c.in-Some.next) (pending c.in-Some.next.after) c.in-Some.ensures
     (λ p h is. no_path c.in-Word.word.now c.in-Err.field-0 c.in-Err.ensures
     (subst IsPath (word_is c.in-Some.next.token c.in-Word.word p c.in-Word.is h) is))
     (not_open c.in-Some.next.token c.in-Word.word c.in-Word.is)
 
 pub expr-returns-in_default : goal.expr-returns-in_default
 expr-returns-in_default t c =
-    expr_shape c.args.room (pending c.args.from) (placed c.in-Some.next) (pending c.in-Some.next.after) c.in-Some.ensures
+    expr_shape c.args.room (pending c.args.from) (placed_first c.in-Some.next) (pending c.in-Some.next.after) c.in-Some.ensures
     (λ p h _. seen_word c.in-Some.next.token p h (λ w e _. c.in_default.not-Word w e))
     (λ h. seen_open c.in-Some.next.token h c.in_default.not-Open)
 
 pub expr-returns-then-room-eq0 : goal.expr-returns-then-room-eq0
 expr-returns-then-room-eq0 t c =
-    expr_deep c.args.room (pending c.args.from) (placed c.in-Some.next) (pending c.in-Some.next.after) c.in-Some.ensures
+    expr_deep c.args.room (pending c.args.from) (placed_first c.in-Some.next) (pending c.in-Some.next.after) c.in-Some.ensures
     (ap seen c.in-Open.is) c.if-room-eq0.true
 
 pub expr-returns-else-room-eq0 : goal.expr-returns-else-room-eq0
@@ -281,7 +281,7 @@ expr-returns-else-room-eq0 t c =
     let r = c.args.room - 1 in
     let n : c.args.room ≡ suc r = omega (arith, c.if-room-eq0.false) in
     onward c.inside.result _ _ _ _ c.inside.ensures
-    (λ v h. opened_read c.args.room r v.0 (pending c.args.from) (placed c.in-Some.next) (pending c.in-Some.next.after) (pending v.1)
+    (λ v h. opened_read c.args.room r v.0 (pending c.args.from) (placed_first c.in-Some.next) (pending c.in-Some.next.after) (pending v.1)
     c.in-Some.ensures (ap seen c.in-Open.is) n h)
-    (λ stop f. opened_fails c.args.room r (pending c.args.from) (placed c.in-Some.next) (pending c.in-Some.next.after) stop
+    (λ stop f. opened_fails c.args.room r (pending c.args.from) (placed_first c.in-Some.next) (pending c.in-Some.next.after) stop
     c.in-Some.ensures (ap seen c.in-Open.is) n f)

@@ -7,7 +7,7 @@ use Rattle.std.specs.BTreeSet.{contains}
 use Rattle.omos_model.specs.ElfFields.{name_of}
 use Rattle.omos_model.specs.Names.{same_name}
 use Rattle.omos_model.proofs.Names.{same_name-swap}
-use Rattle.elf_object.specs.Seen.{HaveSeen, digest, in_place, name_order}
+use Rattle.elf_object.specs.Seen.{HaveSeen, digest, symbol_in_place, name_order}
 use Rattle.elf_object.proofs.SeenNames.{again_other, free_new, seen_more, seen_put}
 use Rattle.elf_object.proofs.seen.is_new.Goals as goal
 
@@ -28,7 +28,7 @@ returns-then-other-eq0 c =
     let here : at ≡ digest name % length places =
     ap (λ n. n % c.len.result) c.digest-number.ensures ∙ ap (λ n. digest name % n) count in
     let inside : at < length places = rw here (mod-lt (digest name) r.seen.some) in
-    let free : in_place places name ≡ 0 =
+    let free : symbol_in_place places name ≡ 0 =
     sym (ap (λ n. get_or places n 0) here)
     ∙ sym (get_or_default_zero places at c.index-other.result.now inside)
     ∙ sym c.index-other.ensures ∙ c.if-other-eq0.true in (
@@ -50,11 +50,11 @@ returns c =
     let here : at ≡ digest name % length places =
     ap (λ n. n % c.len.result) c.digest-number.ensures ∙ ap (λ n. digest name % n) count in
     let inside : at < length places = rw here (mod-lt (digest name) r.seen.some) in
-    let is : c.index-other.result.now ≡ in_place places name =
+    let is : c.index-other.result.now ≡ symbol_in_place places name =
     c.index-other.ensures ∙ get_or_default_zero places at c.index-other.result.now inside
     ∙ ap (λ n. get_or places n 0) here in
-    let apart : same_name name (name_of file (in_place places name)) ≡ false =
-    same_name-swap name (name_of file (in_place places name))
+    let apart : same_name name (name_of file (symbol_in_place places name)) ≡ false =
+    same_name-swap name (name_of file (symbol_in_place places name))
     ∙ ap (λ n. same_name (name_of file n) name) (sym is)
     ∙ ap (λ n. same_name n name) (sym c.name.ensures)
     ∙ sym c.eq.ensures ∙ c.if-eq.false in
