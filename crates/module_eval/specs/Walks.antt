@@ -1,13 +1,25 @@
--- What a walk needs where it goes on, and what it has left where it comes back.
-use Rattle.std.specs.Prelude.{◌≡◌, ◌+◌, ◌≤◌, ℕ, Bool, true, false, length}
-use Rattle.omos_model.specs.Expansion.{max_blueprints}
-use Rattle.omos_model.specs.Namespace.{Space}
+-- What a step of a walk needs, where it goes, and what it has left where it comes back.
+use Rattle.std.specs.Prelude.{◌≡◌, ◌+◌, ◌≤◌, ℕ, Bool, true, false, length, List, Some, Result}
+use Rattle.omos_base.specs.declared.fault.Fault.{Fault}
+use Rattle.omos_model.specs.Expansion.{Blueprint, max_blueprints, source}
+use Rattle.omos_model.specs.Names.{Name}
+use Rattle.omos_model.specs.Namespace.{Space, look_up}
+use Rattle.omos_model.specs.Term.{Term}
+use Rattle.omos_model.specs.Tree.{tree_of}
+use Rattle.omos_model.specs.declared.refusal.Refusal.{Refusal}
+use Rattle.omos_model.specs.declared.visit.Visit.{Visit}
+use Rattle.module_share.specs.Trails.{Trail}
 use Rattle.module_eval.specs.Costs.{StayBuilt, read_of}
-use Rattle.module_eval.specs.Counted.{AreCounted}
+use Rattle.module_eval.specs.Counted.{AreCounted, visit_of}
 use Rattle.module_eval.specs.Found.{AreFound}
 use Rattle.module_eval.specs.Kept.{AreKept}
 use Rattle.module_eval.specs.Known.{AreKnown, Deepens}
+use Rattle.module_eval.specs.Pendings.{EndsIn}
+use Rattle.module_eval.specs.Walked.{IsLimit, Walked, path_in}
 use Rattle.module_eval.specs.declared.counts.Counts.{Counts}
+use Rattle.module_eval.specs.declared.part.Part.{Part}
+use Rattle.module_eval.specs.declared.pending.Pending.{Pending}
+use Rattle.module_eval.specs.declared.walk.BlueprintAt.{BlueprintAt}
 use Rattle.module_eval.specs.declared.walk.Place.{Place}
 use Rattle.module_eval.specs.declared.walk.Walk.{Walk}
 
@@ -28,14 +40,32 @@ pub record IsReady (ns : Space) (walk : Walk) : Type 0 where
   pub kept : AreKept ns walk.memo.kept.entries
   pub known : IsKnown ns walk
 
+-- the blueprint is what stands at its path
+pub record IsThere (ns : Space) (blueprint : BlueprintAt) : Type 0 where
+  pub entry : look_up ns blueprint.path.now ≡ Some blueprint.found.now
+  pub opens : source ns blueprint.path.now ≡ Some (Blueprint (tree_of blueprint.image.now.body))
+
+-- a path that is named here is gone to as expansion goes to it, under any limit on blueprints inside
+-- one another that the walk hasn't passed
+abbrev pub GoesTo : Place → Bool → Name → Result Part (Fault Refusal) → Walk → Walk → Type 0
+GoesTo place counted path result before after =
+    (limit : ℕ) → IsLimit result after.memo.deepest limit
+    → Walked place.counting result
+    (path_in (space_of place) limit before.above counted place.at.now path (visit_of before.counts))
+    after.counts
+
+-- how it ends from a term on, inside these pending nodes
+abbrev pub EndsFrom : Place → ℕ → Walk → List Pending → Term → Visit → Trail Term → Type 0
+EndsFrom place limit walk pending =
+    EndsIn place.counting (space_of place) limit walk.above place.at.now pending
+
 -- the counts are within their limits, and no node was taken off them
 pub record CountOn (before after : Counts) : Type 0 where
   pub counted : AreCounted after
   pub least : before.nodes ≤ after.nodes
 
--- a walk has come back from what it went to: it has closed what it opened, each path that it read
--- has its entry beside it, and what was kept still is; the node of the requested path isn't counted,
--- and its blueprint isn't kept
+-- it has come back: what it opened is closed, each path that it read has its entry beside it, and
+-- what was kept still is; the node of the requested path isn't counted, nor its blueprint kept
 pub record ComesBack (ns : Space) (counted : Bool) (before after : Walk) : Type 0 where
   pub above : after.above ≡ before.above
   pub found : AreFound ns before.counts.read.entries → AreFound ns after.counts.read.entries
@@ -52,7 +82,8 @@ IsCharged ns owed left before after old new =
 
 -- the same where operators are applied; where nodes are only counted, none is but in blueprints
 -- that are gone through for the first time
-pub record Charges (ns : Space) (counting : Bool) (owed left : ℕ) (before after : Counts) (old new : ℕ)
-    : Type 0 where
+pub record Charges
+    (ns : Space) (counting : Bool) (owed left : ℕ) (before after : Counts)
+    (old new : ℕ) : Type 0 where
   pub applied : counting ≡ false → IsCharged ns owed left before after old new
   pub idle : counting ≡ true → IsCharged ns 0 0 before after old new

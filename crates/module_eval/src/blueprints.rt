@@ -3,16 +3,15 @@
 //! A blueprint that is named again is only counted, so that the refusal is found that its expansion
 //! may come to; what became of it is kept (memo.rt).
 
-ghost use Rattle.std.specs.Prelude.{◌≡◌, ℕ, ◌+◌, ◌≤◌, true, false, OnOk, Some};
-ghost use Rattle.omos_model.specs.Expansion.{Blueprint, source};
-ghost use Rattle.omos_model.specs.Namespace.{look_up};
+ghost use Rattle.std.specs.Prelude.{◌≡◌, ℕ, ◌+◌, ◌≤◌, true, false, OnOk};
 ghost use Rattle.omos_model.specs.Tree.{tree_of};
 ghost use Rattle.module_share.specs.Trails.{nested_on};
 ghost use Rattle.module_eval.specs.Costs.{is_built, operators};
 ghost use Rattle.module_eval.specs.Counted.{visit_of};
 ghost use Rattle.module_eval.specs.Kept.{IsKept};
-ghost use Rattle.module_eval.specs.Walked.{IsFree, IsLimit, Walked, path_in, tree_in};
-ghost use Rattle.module_eval.specs.Walks.{Charges, ComesBack, CountOn, IsCharged, IsReady, space_of};
+ghost use Rattle.module_eval.specs.Walked.{IsFree, IsLimit, Walked, tree_in};
+ghost use Rattle.module_eval.specs.Walks.{Charges, ComesBack, CountOn, GoesTo, IsCharged};
+ghost use Rattle.module_eval.specs.Walks.{IsReady, IsThere, space_of};
 
 use crate::exprs::visit_expr;
 use crate::memo::Kept;
@@ -20,10 +19,9 @@ use crate::node::WalkFault;
 use crate::opening::{enter_again, open, open_again};
 use crate::part::Part;
 use crate::reach::{Reach, Tally, deeper, height};
-use crate::walk::{Place, Walk};
+use crate::walk::{BlueprintAt, Place, Walk};
 use module_table::Steps;
-use omos_base::PathName;
-use omos_model::{Image, Stamped};
+use omos_model::Image;
 use std::sync::ledger::Ledger;
 
 /// Goes through the expression of a blueprint for the first time, and keeps what became of it, but
@@ -32,21 +30,15 @@ use std::sync::ledger::Ledger;
 pub fn visit_first<'a, L: Ledger>(
     place: &Place<'a>,
     counted: bool,
-    path: &'a PathName,
-    found: &'a Stamped,
-    image: &'a Image,
+    blueprint: &BlueprintAt<'a>,
     walk: &mut Walk<'a>,
     steps: &mut Steps<L>,
 ) -> Result<Part, WalkFault>
     requires ready { IsReady (space_of place.now) walk.old }
-    requires entry { look_up (space_of place.now) path.now ≡ Some found.now }
-    requires there { source (space_of place.now) path.now
-        ≡ Some (Blueprint (tree_of image.now.body)) }
-    requires free { IsFree walk.old.above path.now }
-    requires fresh { is_built walk.old.memo.kept.entries path.now ≡ false }
-    ensures walk { (limit : ℕ) → IsLimit result walk.new.memo.deepest limit
-        → Walked place.now.counting result (path_in (space_of place.now) limit walk.old.above
-        counted place.now.at.now path.now (visit_of walk.old.counts)) walk.new.counts }
+    requires there { IsThere (space_of place.now) blueprint.now }
+    requires free { IsFree walk.old.above blueprint.now.path.now }
+    requires fresh { is_built walk.old.memo.kept.entries blueprint.now.path.now ≡ false }
+    ensures walk { GoesTo place.now counted blueprint.now.path.now result walk.old walk.new }
     ensures counts { CountOn walk.old.counts walk.new.counts }
     ensures back { OnOk result (ComesBack (space_of place.now) counted walk.old walk.new) }
     ensures more { counted ≡ true
@@ -54,6 +46,7 @@ pub fn visit_first<'a, L: Ledger>(
     ensures cost { IsCharged (space_of place.now) 0 0 walk.old.counts walk.new.counts
         steps.old steps.new }
 {
+    let path = blueprint.path;
     let depth = walk.above.len();
     let outer = walk.memo.deepest;
     walk.memo.deepest = depth + 1;
@@ -62,7 +55,7 @@ pub fn visit_first<'a, L: Ledger>(
         counted,
         place.at,
         path,
-        found,
+        blueprint.found,
         &mut walk.counts,
     )?;
     let first = walk.counts.leaves;
@@ -72,7 +65,7 @@ pub fn visit_first<'a, L: Ledger>(
         at: path,
         counting: false,
     };
-    let part = visit_nested(&inside, image, walk, steps)?;
+    let part = visit_nested(&inside, blueprint.image, walk, steps)?;
     walk.above.pop();
     let height = height(depth, walk.memo.deepest);
     walk.memo.deepest = deeper(outer, walk.memo.deepest);
@@ -93,23 +86,17 @@ pub fn visit_first<'a, L: Ledger>(
 pub fn visit_again<'a, L: Ledger>(
     place: &Place<'a>,
     counted: bool,
-    path: &'a PathName,
-    found: &'a Stamped,
-    image: &'a Image,
+    blueprint: &BlueprintAt<'a>,
     kept: Kept,
     walk: &mut Walk<'a>,
     steps: &mut Steps<L>,
 ) -> Result<Part, WalkFault>
     requires ready { IsReady (space_of place.now) walk.old }
-    requires entry { look_up (space_of place.now) path.now ≡ Some found.now }
-    requires there { source (space_of place.now) path.now
-        ≡ Some (Blueprint (tree_of image.now.body)) }
-    requires free { IsFree walk.old.above path.now }
-    requires built { is_built walk.old.memo.kept.entries path.now ≡ true }
-    requires own { IsKept (space_of place.now) path.now kept }
-    ensures walk { (limit : ℕ) → IsLimit result walk.new.memo.deepest limit
-        → Walked place.now.counting result (path_in (space_of place.now) limit walk.old.above
-        counted place.now.at.now path.now (visit_of walk.old.counts)) walk.new.counts }
+    requires there { IsThere (space_of place.now) blueprint.now }
+    requires free { IsFree walk.old.above blueprint.now.path.now }
+    requires built { is_built walk.old.memo.kept.entries blueprint.now.path.now ≡ true }
+    requires own { IsKept (space_of place.now) blueprint.now.path.now kept }
+    ensures walk { GoesTo place.now counted blueprint.now.path.now result walk.old walk.new }
     ensures counts { CountOn walk.old.counts walk.new.counts }
     ensures back { OnOk result (ComesBack (space_of place.now) counted walk.old walk.new) }
     ensures more { counted ≡ true
@@ -117,7 +104,8 @@ pub fn visit_again<'a, L: Ledger>(
     ensures cost { IsCharged (space_of place.now) 0 0 walk.old.counts walk.new.counts
         steps.old steps.new }
 {
-    enter_again(counted, place.at, path, found, &mut walk.counts)?;
+    let path = blueprint.path;
+    enter_again(counted, place.at, path, blueprint.found, &mut walk.counts)?;
     let depth = walk.above.len();
     if walk.memo.apart && kept.reach.has_room(depth, &walk.counts) {
         walk.memo.deepest = deeper(walk.memo.deepest, kept.reach.height as usize + depth);
@@ -132,7 +120,7 @@ pub fn visit_again<'a, L: Ledger>(
         at: path,
         counting: true,
     };
-    visit_nested(&inside, image, walk, steps)?;
+    visit_nested(&inside, blueprint.image, walk, steps)?;
     walk.above.pop();
     if place.counting {
         return Ok(Part::Counted);

@@ -1,6 +1,7 @@
 //! The walk through the expression of a blueprint, from left to right, outer before inner.
 
-ghost use Rattle.std.specs.Prelude.{◌≡◌, ℕ, ◌+◌, ◌≤◌, ◌∷◌, true, length, reverse, IsTrue, OnOk};
+ghost use Rattle.std.specs.Prelude.{◌≡◌, ℕ, ◌+◌, ◌≤◌, ◌∷◌, true, length, reverse, IsTrue};
+ghost use Rattle.std.specs.Prelude.{OnOk};
 ghost use Rattle.omos_model.specs.Expansion.{site_of};
 ghost use Rattle.omos_model.specs.ImageParts.{is_formed};
 ghost use Rattle.omos_model.specs.Term.{Term};
@@ -9,9 +10,9 @@ ghost use Rattle.module_share.specs.Trails.{Trail};
 ghost use Rattle.module_eval.specs.Costs.{joined, operators, owed, owed_by};
 ghost use Rattle.module_eval.specs.Counted.{visit_of};
 ghost use Rattle.module_eval.specs.Meant.{Means};
-ghost use Rattle.module_eval.specs.Pendings.{Comes, ComesTo, EndsAt, EndsIn, others_in};
+ghost use Rattle.module_eval.specs.Pendings.{Comes, ComesTo, EndsAt, others_in};
 ghost use Rattle.module_eval.specs.Walked.{IsLimit, Walked, path_in, tree_in};
-ghost use Rattle.module_eval.specs.Walks.{Charges, ComesBack, CountOn, IsReady, space_of};
+ghost use Rattle.module_eval.specs.Walks.{Charges, ComesBack, CountOn, EndsFrom, IsReady, space_of};
 
 use crate::counts::begin_node;
 use crate::node::WalkFault;
@@ -67,11 +68,9 @@ fn descend<'a, L: Ledger>(
     ensures walk { (limit : ℕ) (end : Trail Term) → IsLimit result walk.new.memo.deepest limit
         → Comes (tree_in (space_of place.now) limit walk.old.above place.now.at.now
         (tree_of expr.now) (visit_of walk.old.counts))
-        (EndsIn place.now.counting (space_of place.now) limit walk.old.above place.now.at.now
-        pending.old) end
-        → ComesTo place.now.counting result
-        (EndsIn place.now.counting (space_of place.now) limit walk.old.above place.now.at.now
-        pending.new) walk.new.counts end }
+        (EndsFrom place.now limit walk.old pending.old) end
+        → ComesTo place.now.counting result (EndsFrom place.now limit walk.old pending.new)
+        walk.new.counts end }
     ensures counts { CountOn walk.old.counts walk.new.counts }
     ensures back { OnOk result (ComesBack (space_of place.now) true walk.old walk.new) }
     ensures begun { OnOk result (length pending.new + walk.old.counts.nodes + 1
@@ -113,9 +112,8 @@ fn resume<'a, L: Ledger>(
         → IsLimit result walk.new.memo.deepest limit → Means place.now.counting part t
         → EndsAt place.now.counting (space_of place.now) limit walk.old.above place.now.at.now
         (node.entry ∷ reverse pending.old) t (visit_of walk.old.counts) end
-        → ComesTo place.now.counting result
-        (EndsIn place.now.counting (space_of place.now) limit walk.old.above place.now.at.now
-        pending.new) walk.new.counts end }
+        → ComesTo place.now.counting result (EndsFrom place.now limit walk.old pending.new)
+        walk.new.counts end }
     ensures counts { CountOn walk.old.counts walk.new.counts }
     ensures back { OnOk result (ComesBack (space_of place.now) true walk.old walk.new) }
     ensures done { OnOk result (length pending.new + walk.old.counts.nodes
@@ -163,11 +161,9 @@ fn visit_others<'a, L: Ledger>(
         → Comes (others_in (path_in (space_of place.now) limit walk.old.above true place.now.at.now)
         place.now.at.now join (site_of place.now.at.now node) t others.entry
         (visit_of walk.old.counts))
-        (EndsIn place.now.counting (space_of place.now) limit walk.old.above place.now.at.now
-        pending.old) end
-        → ComesTo place.now.counting result
-        (EndsIn place.now.counting (space_of place.now) limit walk.old.above place.now.at.now
-        pending.new) walk.new.counts end }
+        (EndsFrom place.now limit walk.old pending.old) end
+        → ComesTo place.now.counting result (EndsFrom place.now limit walk.old pending.new)
+        walk.new.counts end }
     ensures counts { CountOn walk.old.counts walk.new.counts }
     ensures back { OnOk result (ComesBack (space_of place.now) true walk.old walk.new) }
     ensures done { OnOk result (length pending.new + walk.old.counts.nodes

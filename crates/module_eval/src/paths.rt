@@ -1,12 +1,8 @@
 //! The walk to a path, by what stands there.
 
-ghost use Rattle.std.specs.Prelude.{◌≡◌, ℕ, ◌+◌, ◌≤◌, true, false, OnOk, Some};
-ghost use Rattle.omos_model.specs.Expansion.{Blueprint, source};
-ghost use Rattle.omos_model.specs.Namespace.{look_up};
-ghost use Rattle.omos_model.specs.Tree.{tree_of};
-ghost use Rattle.module_eval.specs.Counted.{visit_of};
-ghost use Rattle.module_eval.specs.Walked.{IsLimit, Walked, path_in};
-ghost use Rattle.module_eval.specs.Walks.{ComesBack, CountOn, IsCharged, IsReady, space_of};
+ghost use Rattle.std.specs.Prelude.{◌≡◌, ◌+◌, ◌≤◌, true, OnOk};
+ghost use Rattle.module_eval.specs.Walks.{ComesBack, CountOn, GoesTo, IsCharged, IsReady, IsThere};
+ghost use Rattle.module_eval.specs.Walks.{space_of};
 
 use crate::blueprints::{visit_again, visit_first};
 use crate::memo::Found;
@@ -14,10 +10,10 @@ use crate::node::WalkFault;
 use crate::object::visit_object;
 use crate::opening::{bar, no_entry};
 use crate::part::Part;
-use crate::walk::{Place, Walk};
+use crate::walk::{BlueprintAt, Place, Walk};
 use module_table::Steps;
 use omos_base::{Fault, PathName};
-use omos_model::{Entry, Image, Stamped};
+use omos_model::Entry;
 use std::sync::ledger::Ledger;
 
 /// Goes to a path. The node that names it is counted, but for the requested path.
@@ -33,9 +29,7 @@ pub fn visit_path<'a, L: Ledger>(
     steps: &mut Steps<L>,
 ) -> Result<Part, WalkFault>
     requires ready { IsReady (space_of place.now) walk.old }
-    ensures walk { (limit : ℕ) → IsLimit result walk.new.memo.deepest limit
-        → Walked place.now.counting result (path_in (space_of place.now) limit walk.old.above
-        counted place.now.at.now path.now (visit_of walk.old.counts)) walk.new.counts }
+    ensures walk { GoesTo place.now counted path.now result walk.old walk.new }
     ensures counts { CountOn walk.old.counts walk.new.counts }
     ensures back { OnOk result (ComesBack (space_of place.now) counted walk.old walk.new) }
     ensures more { counted ≡ true
@@ -57,7 +51,10 @@ pub fn visit_path<'a, L: Ledger>(
                 &mut walk.counts,
             )
         }
-        Entry::Blueprint(image) => visit_blueprint(place, counted, path, found, image, walk, steps),
+        Entry::Blueprint(image) => {
+            let blueprint = BlueprintAt { path, found, image };
+            visit_blueprint(place, counted, &blueprint, walk, steps)
+        }
     }
 }
 
@@ -66,19 +63,13 @@ pub fn visit_path<'a, L: Ledger>(
 fn visit_blueprint<'a, L: Ledger>(
     place: &Place<'a>,
     counted: bool,
-    path: &'a PathName,
-    found: &'a Stamped,
-    image: &'a Image,
+    blueprint: &BlueprintAt<'a>,
     walk: &mut Walk<'a>,
     steps: &mut Steps<L>,
 ) -> Result<Part, WalkFault>
     requires ready { IsReady (space_of place.now) walk.old }
-    requires entry { look_up (space_of place.now) path.now ≡ Some found.now }
-    requires there { source (space_of place.now) path.now
-        ≡ Some (Blueprint (tree_of image.now.body)) }
-    ensures walk { (limit : ℕ) → IsLimit result walk.new.memo.deepest limit
-        → Walked place.now.counting result (path_in (space_of place.now) limit walk.old.above
-        counted place.now.at.now path.now (visit_of walk.old.counts)) walk.new.counts }
+    requires there { IsThere (space_of place.now) blueprint.now }
+    ensures walk { GoesTo place.now counted blueprint.now.path.now result walk.old walk.new }
     ensures counts { CountOn walk.old.counts walk.new.counts }
     ensures back { OnOk result (ComesBack (space_of place.now) counted walk.old walk.new) }
     ensures more { counted ≡ true
@@ -86,6 +77,7 @@ fn visit_blueprint<'a, L: Ledger>(
     ensures cost { IsCharged (space_of place.now) 0 0 walk.old.counts walk.new.counts
         steps.old steps.new }
 {
+    let path = blueprint.path;
     if let Some(barred) = bar(
         walk.counts.alloc(),
         &walk.above,
@@ -96,8 +88,8 @@ fn visit_blueprint<'a, L: Ledger>(
         return Err(barred);
     }
     match walk.memo.find(walk.counts.alloc(), path) {
-        Found::Kept(kept) => visit_again(place, counted, path, found, image, kept, walk, steps),
-        Found::Nothing => visit_first(place, counted, path, found, image, walk, steps),
+        Found::Kept(kept) => visit_again(place, counted, blueprint, kept, walk, steps),
+        Found::Nothing => visit_first(place, counted, blueprint, walk, steps),
         Found::NoMemory => Err(Fault::NoMemory),
     }
 }

@@ -13,6 +13,7 @@ use crate::counts::Counts;
 use crate::memo::Memo;
 use name_tree::Snap;
 use omos_base::PathName;
+use omos_model::{Image, Stamped};
 use seeded_hash::Seed;
 use sqlite_items::Items;
 use std::alloc::Global;
@@ -26,6 +27,15 @@ pub struct Place<'a> {
     pub at: &'a PathName,
     /// Whether nodes are only counted: then no operator is applied, and no table is made.
     pub counting: bool,
+}
+
+/// A blueprint that a node names, or the request.
+#[derive(Clone, Copy)]
+pub struct BlueprintAt<'a> {
+    pub path: &'a PathName,
+    /// What was found at its path.
+    pub found: &'a Stamped,
+    pub image: &'a Image,
 }
 
 /// How far a walk has come.

@@ -62,9 +62,9 @@ pub paths::visit_blueprint-returns-in-Some-clause-walk : goal.paths::visit_bluep
 paths::visit_blueprint-returns-in-Some-clause-walk g t c limit lim =
     let ns = c.args.place.now.snap.now.entries in
     let above = c.args.walk.now.above in
-    let p = c.args.path.now in
+    let p = c.args.blueprint.now.path.now in
     subst (λ n. Walked c.args.place.now.counting (Err c.in-Some.barred) (path_in ns n above c.args.counted c.args.place.now.at.now p (visit_of c.args.walk.now.counts)) c.args.walk.now.counts) (sym lim)
-    (barred (source ns) above c.args.counted c.args.place.now.at.now p (tree_of c.args.image.now.body) c.in-Some.barred c.args.place.now.counting c.args.walk.now.counts c.requires.there c.in-Some.ensures)
+    (barred (source ns) above c.args.counted c.args.place.now.at.now p (tree_of c.args.blueprint.now.image.now.body) c.in-Some.barred c.args.place.now.counting c.args.walk.now.counts c.requires.there.opens c.in-Some.ensures)
 
 -- ---- its first use
 
@@ -74,21 +74,21 @@ blueprints::visit_first-returns-in_err-open-clause-walk g t c =
     let q = err_from_is_err_and c.from_residual.result c.from_residual.ensures.1 in
     rw (q.1, q.2)
     (λ limit lim.
-    not_opened c.args.place.now.snap.now.entries limit above c.args.counted c.args.place.now.at.now c.args.path.now (visit_of c.args.walk.now.counts) (tree_of c.args.image.now.body) c.requires.there c.requires.free.0 (subst (λ n. length above < n) (sym lim) c.requires.free.1)
+    not_opened c.args.place.now.snap.now.entries limit above c.args.counted c.args.place.now.at.now c.args.blueprint.now.path.now (visit_of c.args.walk.now.counts) (tree_of c.args.blueprint.now.image.now.body) c.requires.there.opens c.requires.free.0 (subst (λ n. length above < n) (sym lim) c.requires.free.1)
     c.args.place.now.counting c.in_err-open.field-0.0 c.open.new.counts c.in_err-open.ensures.walk)
 
 pub blueprints::visit_first-returns-in_err-part-clause-walk : goal.blueprints::visit_first-returns-in_err-part-clause-walk
 blueprints::visit_first-returns-in_err-part-clause-walk g t c =
     let ns = c.args.place.now.snap.now.entries in
     let above = c.args.walk.now.above in
-    let p = c.args.path.now in
-    let x = tree_of c.args.image.now.body in
+    let p = c.args.blueprint.now.path.now in
+    let x = tree_of c.args.blueprint.now.image.now.body in
     let f = c.in_err-part.field-0.0 in
     let q = err_from_is_err_and c.from_residual-in_err-part.result c.from_residual-in_err-part.ensures.1 in
     let walked = rw c.in_ok-open.ensures.last at c.in_err-part.ensures.walk in
     rw (q.1, q.2)
     (λ limit lim.
-    walked_inside ns limit above c.args.counted c.args.place.now.at.now p (visit_of c.args.walk.now.counts) x c.requires.there c.requires.free.0 (subst (λ n. length above < n) (sym lim) c.requires.free.1)
+    walked_inside ns limit above c.args.counted c.args.place.now.at.now p (visit_of c.args.walk.now.counts) x c.requires.there.opens c.requires.free.0 (subst (λ n. length above < n) (sym lim) c.requires.free.1)
     c.args.place.now.counting (Err f) (site_of c.args.place.now.at.now c.in_ok-open.field-0) c.open.new.counts c.visit_nested.new.walk.counts c.in_ok-open.ensures.walk
     (refused_any false c.args.place.now.counting f (nested_on (tree_in ns limit (above ++ p ∷ []) p x) (visit_of c.open.new.counts)) c.visit_nested.new.walk.counts (walked limit lim)))
 
@@ -96,13 +96,13 @@ pub blueprints::visit_first-returns-then-not-counted-clause-walk : goal.blueprin
 blueprints::visit_first-returns-then-not-counted-clause-walk g t c limit lim =
     let ns = c.args.place.now.snap.now.entries in
     let above = c.args.walk.now.above in
-    let p = c.args.path.now in
-    let x = tree_of c.args.image.now.body in
+    let p = c.args.blueprint.now.path.now in
+    let x = tree_of c.args.blueprint.now.image.now.body in
     let walked = rw c.in_ok-open.ensures.last at c.in_ok-part.ensures.walk in
     let low = c.deeper-walk.ensures.second in
     let deep = c.in_ok-part.ensures.back.deepens.deeper in
     let long = c.len-depth.ensures in
-    walked_inside ns limit above c.args.counted c.args.place.now.at.now p (visit_of c.args.walk.now.counts) x c.requires.there c.requires.free.0 (omega (arith, lim, low, deep, long))
+    walked_inside ns limit above c.args.counted c.args.place.now.at.now p (visit_of c.args.walk.now.counts) x c.requires.there.opens c.requires.free.0 (omega (arith, lim, low, deep, long))
     c.args.place.now.counting (Ok c.in_ok-part.part) (site_of c.args.place.now.at.now c.in_ok-open.field-0) c.open.new.counts c.visit_nested.new.walk.counts c.in_ok-open.ensures.walk
     (walked_any c.args.place.now.counting (Ok c.in_ok-part.part) (nested_on (tree_in ns limit (above ++ p ∷ []) p x) (visit_of c.open.new.counts)) c.visit_nested.new.walk.counts (walked limit (omega (arith, lim, low))))
 
@@ -110,8 +110,8 @@ pub blueprints::visit_first-returns-clause-walk : goal.blueprints::visit_first-r
 blueprints::visit_first-returns-clause-walk g t c limit lim =
     let ns = c.args.place.now.snap.now.entries in
     let above = c.args.walk.now.above in
-    let p = c.args.path.now in
-    let x = tree_of c.args.image.now.body in
+    let p = c.args.blueprint.now.path.now in
+    let x = tree_of c.args.blueprint.now.image.now.body in
     let v = visit_of c.open.new.counts in
     let walked = rw c.in_ok-open.ensures.last at c.in_ok-part.ensures.walk in
     let low = c.deeper-walk.ensures.second in
@@ -119,8 +119,8 @@ blueprints::visit_first-returns-clause-walk g t c limit lim =
     let long = c.len-depth.ensures in
     let same = c.in_ok-keep.ensures.deepest in
     let walk = walked limit (omega (arith, lim, low, same)) in
-    let run = run_of ns limit (above ++ p ∷ []) p x v (visit_of c.visit_nested.new.walk.counts) walk.0 c.requires.there walk.1 in
-    walked_inside ns limit above c.args.counted c.args.place.now.at.now p (visit_of c.args.walk.now.counts) x c.requires.there c.requires.free.0 (omega (arith, lim, low, same, deep, long))
+    let run = run_of ns limit (above ++ p ∷ []) p x v (visit_of c.visit_nested.new.walk.counts) walk.0 c.requires.there.opens walk.1 in
+    walked_inside ns limit above c.args.counted c.args.place.now.at.now p (visit_of c.args.walk.now.counts) x c.requires.there.opens c.requires.free.0 (omega (arith, lim, low, same, deep, long))
     c.args.place.now.counting (Ok c.in_ok-keep.field-0) (site_of c.args.place.now.at.now c.in_ok-open.field-0) c.open.new.counts c.visit_nested.new.walk.counts c.in_ok-open.ensures.walk
     (walk.0, walk.1, means_any c.args.place.now.counting _ walk.0 (c.in_ok-keep.ensures.part ns walk.0 walk.2 run))
 
@@ -128,32 +128,32 @@ pub blueprints::visit_first-returns-clause-back : goal.blueprints::visit_first-r
 blueprints::visit_first-returns-clause-back g t c =
     let ns = c.args.place.now.snap.now.entries in
     let above = c.args.walk.now.above in
-    let p = c.args.path.now in
-    let x = tree_of c.args.image.now.body in
+    let p = c.args.blueprint.now.path.now in
+    let x = tree_of c.args.blueprint.now.image.now.body in
     let v = visit_of c.open.new.counts in
     let w = visit_of c.visit_nested.new.walk.counts in
     let reads = c.visit_nested.new.walk.counts.read.entries in
     let limit = c.visit_nested.new.walk.memo.deepest in
     let walked = rw c.in_ok-open.ensures.last at c.in_ok-part.ensures.walk in
     let walk = walked limit (omega arith) in
-    let run = run_of ns limit (above ++ p ∷ []) p x v w walk.0 c.requires.there walk.1 in
+    let run = run_of ns limit (above ++ p ∷ []) p x v w walk.0 c.requires.there.opens walk.1 in
     let deep = c.in_ok-part.ensures.back.deepens.deeper in
     let low = c.in_ok-part.ensures.back.deepens.low in
     let low_before = c.requires.ready.low in
     let long = c.len-depth.ensures in
     let high = c.height-height.ensures in
     let as_high = c.of-reach.ensures.height in
-    let reach = reach_of ns limit above p x v w walk.0 walk.1 c.of-reach.result c.requires.there (omega (arith, deep, long)) (omega (arith, high, as_high, long))
+    let reach = reach_of ns limit above p x v w walk.0 walk.1 c.of-reach.result c.requires.there.opens (omega (arith, deep, long)) (omega (arith, high, as_high, long))
     (c.of-reach.ensures.added ∙ ap (λ (a : Tally). added a (tally_of w)) c.of-before.ensures) in
     let named = named_by ns limit above p x v w walk.0 walk.1 in
     let more = c.in_ok-part.ensures.back.above ∙ c.in_ok-open.ensures.last in
     let keep = c.in_ok-keep.ensures in
-    let closed = known_closed ns above c.visit_nested.new.walk.above reads p more c.visit_nested.new.walk.memo.apart c.visit_nested.new.walk.memo.kept.entries c.keep.new.self.kept.entries x c.requires.free.0 c.requires.there keep.others keep.stays (keep.here walk.0 walk.2) named (c.in_ok-part.ensures.back.known refl) in
+    let closed = known_closed ns above c.visit_nested.new.walk.above reads p more c.visit_nested.new.walk.memo.apart c.visit_nested.new.walk.memo.kept.entries c.keep.new.self.kept.entries x c.requires.free.0 c.requires.there.opens keep.others keep.stays (keep.here walk.0 walk.2) named (c.in_ok-part.ensures.back.known refl) in
     let popped = popped_so c.pop.result c.visit_nested.new.walk.above c.pop.new.self above p more c.pop.ensures in
     let deeper = c.deeper-walk.ensures in
     record {
       above = popped;
-      found = λ f. c.in_ok-part.ensures.back.found (c.in_ok-open.ensures.found ns c.requires.entry f);
+      found = λ f. c.in_ok-part.ensures.back.found (c.in_ok-open.ensures.found ns c.requires.there.entry f);
       kept = keep.kept ns walk.0 walk.2 run reach c.in_ok-part.ensures.back.kept;
       stays = λ q h. keep.stays q (c.in_ok-part.ensures.back.stays q h);
       deepens = record {
@@ -172,15 +172,15 @@ blueprints::visit_again-returns-in_err-enter_again-clause-walk g t c =
     let q = err_from_is_err_and c.from_residual.result c.from_residual.ensures.1 in
     rw (q.1, q.2)
     (λ limit lim.
-    not_opened c.args.place.now.snap.now.entries limit above c.args.counted c.args.place.now.at.now c.args.path.now (visit_of c.args.walk.now.counts) (tree_of c.args.image.now.body) c.requires.there c.requires.free.0 (subst (λ n. length above < n) (sym lim) c.requires.free.1)
+    not_opened c.args.place.now.snap.now.entries limit above c.args.counted c.args.place.now.at.now c.args.blueprint.now.path.now (visit_of c.args.walk.now.counts) (tree_of c.args.blueprint.now.image.now.body) c.requires.there.opens c.requires.free.0 (subst (λ n. length above < n) (sym lim) c.requires.free.1)
     c.args.place.now.counting c.in_err-enter_again.field-0.0 c.enter_again.new.counts c.in_err-enter_again.ensures.walk)
 
 pub blueprints::visit_again-returns-then-has_room-clause-walk : goal.blueprints::visit_again-returns-then-has_room-clause-walk
 blueprints::visit_again-returns-then-has_room-clause-walk g t c limit lim =
     let ns = c.args.place.now.snap.now.entries in
     let above = c.args.walk.now.above in
-    let p = c.args.path.now in
-    let x = tree_of c.args.image.now.body in
+    let p = c.args.blueprint.now.path.now in
+    let x = tree_of c.args.blueprint.now.image.now.body in
     let all = c.args.walk.now.memo.kept.entries in
     let own = c.requires.own in
     let v = visit_of c.enter_again.new.counts in
@@ -191,10 +191,10 @@ blueprints::visit_again-returns-then-has_room-clause-walk g t c limit lim =
     let long = c.len-depth.ensures in
     let high : c.args.kept.reach.height + length above ≤ limit = omega (arith, low, lim, long) in
     let tall = own.reach.low in
-    let r = reused ns limit above p x c.args.kept.reach v c.enter_again.new.counts.read.entries c.args.walk.now.memo.apart all own.reach c.requires.there known none_open c.requires.built refl room.1 high in
+    let r = reused ns limit above p x c.args.kept.reach v c.enter_again.new.counts.read.entries c.args.walk.now.memo.apart all own.reach c.requires.there.opens known none_open c.requires.built refl room.1 high in
     let is = r.1 ∙ ap (λ (w : Visit). Ok (r.0, w)) (sym c.in_ok-use_again.ensures.sum) in
-    let run = run_of ns limit (above ++ p ∷ []) p x v (visit_of c.use_again.new.counts) r.0 c.requires.there is in
-    walked_inside ns limit above c.args.counted c.args.place.now.at.now p (visit_of c.args.walk.now.counts) x c.requires.there c.requires.free.0 (omega (arith, high, tall))
+    let run = run_of ns limit (above ++ p ∷ []) p x v (visit_of c.use_again.new.counts) r.0 c.requires.there.opens is in
+    walked_inside ns limit above c.args.counted c.args.place.now.at.now p (visit_of c.args.walk.now.counts) x c.requires.there.opens c.requires.free.0 (omega (arith, high, tall))
     c.args.place.now.counting (Ok c.in_ok-use_again.field-0) (site_of c.args.place.now.at.now c.in_ok-enter_again.field-0) c.enter_again.new.counts c.use_again.new.counts c.in_ok-enter_again.ensures.walk
     (r.0, is, means_any c.args.place.now.counting _ r.0 (c.in_ok-use_again.ensures.part ns p r.0 own run))
 
@@ -203,14 +203,14 @@ pub blueprints::visit_again-returns-in_err-visit_nested-clause-walk :
 blueprints::visit_again-returns-in_err-visit_nested-clause-walk g t c =
     let ns = c.args.place.now.snap.now.entries in
     let above = c.args.walk.now.above in
-    let p = c.args.path.now in
-    let x = tree_of c.args.image.now.body in
+    let p = c.args.blueprint.now.path.now in
+    let x = tree_of c.args.blueprint.now.image.now.body in
     let f = c.in_err-visit_nested.field-0.0 in
     let q = err_from_is_err_and c.from_residual-in_err-visit_nested.result c.from_residual-in_err-visit_nested.ensures.1 in
     let walked = rw c.in_ok-open_again.ensures.last at c.in_err-visit_nested.ensures.walk in
     rw (q.1, q.2)
     (λ limit lim.
-    walked_inside ns limit above c.args.counted c.args.place.now.at.now p (visit_of c.args.walk.now.counts) x c.requires.there c.requires.free.0 (subst (λ n. length above < n) (sym lim) c.requires.free.1)
+    walked_inside ns limit above c.args.counted c.args.place.now.at.now p (visit_of c.args.walk.now.counts) x c.requires.there.opens c.requires.free.0 (subst (λ n. length above < n) (sym lim) c.requires.free.1)
     c.args.place.now.counting (Err f) (site_of c.args.place.now.at.now c.in_ok-enter_again.field-0) c.enter_again.new.counts c.visit_nested.new.walk.counts c.in_ok-enter_again.ensures.walk
     (refused_any true c.args.place.now.counting f (nested_on (tree_in ns limit (above ++ p ∷ []) p x) (visit_of c.enter_again.new.counts)) c.visit_nested.new.walk.counts (walked limit lim)))
 
@@ -218,14 +218,14 @@ pub blueprints::visit_again-returns-then-place-clause-walk : goal.blueprints::vi
 blueprints::visit_again-returns-then-place-clause-walk g t c limit lim =
     let ns = c.args.place.now.snap.now.entries in
     let above = c.args.walk.now.above in
-    let p = c.args.path.now in
-    let x = tree_of c.args.image.now.body in
+    let p = c.args.blueprint.now.path.now in
+    let x = tree_of c.args.blueprint.now.image.now.body in
     let walked = rw c.in_ok-open_again.ensures.last at c.in_ok-visit_nested.ensures.walk in
     let low = c.deeper-walk-2.ensures.second in
     let deep = c.in_ok-visit_nested.ensures.back.deepens.deeper in
     let long = c.len-depth.ensures in
     let walk = walked limit lim in
-    walked_inside ns limit above c.args.counted c.args.place.now.at.now p (visit_of c.args.walk.now.counts) x c.requires.there c.requires.free.0 (omega (arith, lim, low, deep, long))
+    walked_inside ns limit above c.args.counted c.args.place.now.at.now p (visit_of c.args.walk.now.counts) x c.requires.there.opens c.requires.free.0 (omega (arith, lim, low, deep, long))
     c.args.place.now.counting (Ok Counted) (site_of c.args.place.now.at.now c.in_ok-enter_again.field-0) c.enter_again.new.counts c.visit_nested.new.walk.counts c.in_ok-enter_again.ensures.walk
     (walk.0, walk.1, c.if-place.true)
 
@@ -234,7 +234,7 @@ pub blueprints::visit_again-returns-then-place-clause-back :
 blueprints::visit_again-returns-then-place-clause-back g t c =
     let ns = c.args.place.now.snap.now.entries in
     let above = c.args.walk.now.above in
-    let p = c.args.path.now in
+    let p = c.args.blueprint.now.path.now in
     let reads = c.visit_nested.new.walk.counts.read.entries in
     let memo = c.visit_nested.new.walk.memo in
     let nested = c.in_ok-visit_nested.ensures.back in
@@ -243,7 +243,7 @@ blueprints::visit_again-returns-then-place-clause-back g t c =
     let deeper = c.deeper-walk-2.ensures.first in
     record {
       above = popped;
-      found = λ f. nested.found (c.in_ok-enter_again.ensures.found ns c.requires.entry f);
+      found = λ f. nested.found (c.in_ok-enter_again.ensures.found ns c.requires.there.entry f);
       kept = nested.kept;
       stays = nested.stays;
       deepens = record { deeper = omega (arith, deeper, nested.deepens.deeper); low = nested.deepens.low };
@@ -255,15 +255,15 @@ pub blueprints::visit_again-returns-clause-walk : goal.blueprints::visit_again-r
 blueprints::visit_again-returns-clause-walk g t c limit lim =
     let ns = c.args.place.now.snap.now.entries in
     let above = c.args.walk.now.above in
-    let p = c.args.path.now in
-    let x = tree_of c.args.image.now.body in
+    let p = c.args.blueprint.now.path.now in
+    let x = tree_of c.args.blueprint.now.image.now.body in
     let walked = rw c.in_ok-open_again.ensures.last at c.in_ok-visit_nested.ensures.walk in
     let low = c.deeper-walk-2.ensures.second in
     let deep = c.in_ok-visit_nested.ensures.back.deepens.deeper in
     let long = c.len-depth.ensures in
     let walk = walked limit lim in
-    let run = run_of ns limit (above ++ p ∷ []) p x (visit_of c.enter_again.new.counts) (visit_of c.visit_nested.new.walk.counts) walk.0 c.requires.there walk.1 in
-    walked_inside ns limit above c.args.counted c.args.place.now.at.now p (visit_of c.args.walk.now.counts) x c.requires.there c.requires.free.0 (omega (arith, lim, low, deep, long))
+    let run = run_of ns limit (above ++ p ∷ []) p x (visit_of c.enter_again.new.counts) (visit_of c.visit_nested.new.walk.counts) walk.0 c.requires.there.opens walk.1 in
+    walked_inside ns limit above c.args.counted c.args.place.now.at.now p (visit_of c.args.walk.now.counts) x c.requires.there.opens c.requires.free.0 (omega (arith, lim, low, deep, long))
     c.args.place.now.counting (Ok c.in_ok-again.field-0) (site_of c.args.place.now.at.now c.in_ok-enter_again.field-0) c.enter_again.new.counts c.visit_nested.new.walk.counts c.in_ok-enter_again.ensures.walk
     (walk.0, walk.1, means_any c.args.place.now.counting _ walk.0 (c.in_ok-again.ensures ns p walk.0 c.requires.own run))
 
@@ -271,7 +271,7 @@ pub blueprints::visit_again-returns-clause-back : goal.blueprints::visit_again-r
 blueprints::visit_again-returns-clause-back g t c =
     let ns = c.args.place.now.snap.now.entries in
     let above = c.args.walk.now.above in
-    let p = c.args.path.now in
+    let p = c.args.blueprint.now.path.now in
     let reads = c.visit_nested.new.walk.counts.read.entries in
     let memo = c.visit_nested.new.walk.memo in
     let nested = c.in_ok-visit_nested.ensures.back in
@@ -280,7 +280,7 @@ blueprints::visit_again-returns-clause-back g t c =
     let deeper = c.deeper-walk-2.ensures.first in
     record {
       above = popped;
-      found = λ f. nested.found (c.in_ok-enter_again.ensures.found ns c.requires.entry f);
+      found = λ f. nested.found (c.in_ok-enter_again.ensures.found ns c.requires.there.entry f);
       kept = nested.kept;
       stays = nested.stays;
       deepens = record { deeper = omega (arith, deeper, nested.deepens.deeper); low = nested.deepens.low };
