@@ -4,7 +4,7 @@ use Rattle.omos_model.specs.declared.refusal.BpFault.{BpFault}
 use Rattle.omos_model.specs.declared.refusal.BpFault.TheVariants.{Shape}
 use Rattle.bp_tree.specs.Tokens.{Token, Open, Word, Placed}
 use Rattle.bp_tree.specs.TextFaults.{Begins, CallsForNumber, IsNumberWord, IsTokenFault}
-use Rattle.bp_tree.specs.Symbols.{Sym, IsSym, AreSyms, Completable, Fails, WhyStops}
+use Rattle.bp_tree.specs.inside.Symbols.{Sym, IsSym, AreSyms, Completable, Fails, WhyStops}
 use Rattle.bp_tree.specs.declared.stop.Stop.{Stop}
 use Rattle.bp_tree.specs.declared.stop.Stop.TheVariants.{Early, At}
 use Rattle.bp_tree.proofs.Moves.{step}
@@ -53,7 +53,8 @@ fails_early s ts sample none e = record {
 }
 
 -- a token with which it doesn't begin, and what is wrong with it
-pub fails_at : (s : Sym) (ts : List Placed) (t : Placed) (after : List Placed) (fault : BpFault) → Sample s → ts ≡ t ∷ after
+pub fails_at : (s : Sym) (ts : List Placed) (t : Placed) (after : List Placed) (fault : BpFault)
+    → Sample s → ts ≡ t ∷ after
     → IsNeverEmpty s → ((tail : List Token) → IsSym 0 s (t.token ∷ tail) → ⊥)
     → ((ss : List Sym) → Completable ss → IsTokenFault (AreSyms (s ∷ ss)) [] t.token t.place fault)
     → Fails (s ∷ []) ts (At fault)
@@ -110,7 +111,8 @@ pub fails_shape : (s : Sym) (ts : List Placed) (t : Placed) (after : List Placed
     → (t.token ≡ Open → (more : ℕ) (tail : List Token) → IsSym more s (Open ∷ tail) → ⊥)
     → IsUncalled s → Fails (s ∷ []) ts (At (Shape t.place))
 fails_shape s ts t after sample none e stops deep calls =
-    fails_plain s ts t after sample none e stops deep (λ ss c w is calling. uncalled s ss none calls c calling)
+    fails_plain s ts t after sample none e stops deep
+    (λ ss c w is calling. uncalled s ss none calls c calling)
 
 -- one token was taken
 pub leads_step : (now now' : List Sym) (t : Placed) (ts after : List Placed) → ts ≡ t ∷ after

@@ -1,5 +1,6 @@
 -- The start and the range of an image, which may be left out.
-use Rattle.std.proofs.Common.{get_or, ◌≤◌, ◌≡◌, ℕ, ◌+◌, List, [], ◌∷◌, ◌++◌, refl, sym, ap, subst, ◌∙◌, ◌⊎◌, inl, inr, codes, arith, cond}
+use Rattle.std.proofs.Common.{get_or, ◌≤◌, ◌≡◌, ℕ, ◌+◌, List, [], ◌∷◌, ◌++◌, refl, sym, ap, subst}
+use Rattle.std.proofs.Common.{◌∙◌, ◌⊎◌, inl, inr, codes, arith, cond}
 use Rattle.omos_base.specs.SymNames.{IsSymName}
 use Rattle.omos_model.specs.Names.{Name, same_name}
 use Rattle.omos_model.specs.declared.entry.Start.{Start}
@@ -9,8 +10,9 @@ use Rattle.bp_tree.specs.Tokens.{Token, Open, Close, Word, Barred, Placed}
 use Rattle.bp_tree.specs.Texts.{words_of}
 use Rattle.bp_tree.specs.TextFaults.{Language, Begins}
 use Rattle.bp_tree.specs.Grammar.{IsExpr, IsOpened, IsStart, IsRange}
-use Rattle.bp_tree.specs.Symbols.{Sym, It, AName, AStart, ARange, Low, AreSyms, keyword, Completable, Fails, AreRead, WhyStops}
-use Rattle.bp_tree.specs.Header.{IsOpening, IsHeaderPart, body_syms, range_syms, AreBounds}
+use Rattle.bp_tree.specs.inside.Symbols.{Sym, It, AName, AStart, ARange, Low, AreSyms, keyword}
+use Rattle.bp_tree.specs.inside.Symbols.{Completable, Fails, AreRead, WhyStops}
+use Rattle.bp_tree.specs.inside.Header.{IsOpening, IsHeaderPart, body_syms, range_syms, AreBounds}
 use Rattle.bp_tree.specs.declared.form.Form.{Form}
 use Rattle.bp_tree.specs.declared.form.Form.TheVariants as form
 use Rattle.bp_tree.specs.declared.form.Applied.TheVariants as kind
@@ -24,7 +26,8 @@ use Rattle.bp_tree.proofs.Solids.{solid_end}
 
 -- ---- two tokens taken
 
-pub opened_lead : (K L : Language) (k : List ℕ) (ts after : List Placed) (stop : Stop) → IsOpening ts k after
+pub opened_lead : (K L : Language) (k : List ℕ) (ts after : List Placed) (stop : Stop)
+    → IsOpening ts k after
     → ((more : ℕ) (ws : List Token) → K more ws → L more (Open ∷ Word k ∷ ws))
     → ((more : ℕ) (ws : List Token) → L more (Open ∷ Word k ∷ ws) → K more ws)
     → WhyStops K after stop → WhyStops L ts stop
@@ -119,8 +122,11 @@ body_opens : (more : ℕ) → (rest : List Token) × AreSyms body_syms more (Ope
 body_opens more =
     let n : 62 + more + 1 ≡ 63 + more = omega arith in
     let n' : IsExpr (63 + more) (Open ∷ sample) freeze_a =
-    subst (λ m. IsExpr m (Open ∷ sample) freeze_a) (omega arith) (opened_is_expr (62 + more) (Open ∷ sample) freeze_a (opened_a (62 + more))) in
-    (Close ∷ [], (Open ∷ sample, Close ∷ [], refl, (freeze_a, n'), (Close ∷ [], [], refl, refl, refl)))
+    subst (λ m. IsExpr m (Open ∷ sample) freeze_a) (omega arith)
+    (opened_is_expr (62 + more) (Open ∷ sample) freeze_a (opened_a (62 + more))) in (
+      Close ∷ [],
+      (Open ∷ sample, Close ∷ [], refl, (freeze_a, n'), (Close ∷ [], [], refl, refl, refl)),
+    )
 
 body_open : (more : ℕ) → Begins (AreSyms body_syms) more (Open ∷ [])
 body_open more = let b = body_opens more in (sample ++ b.0, b.1)
@@ -146,10 +152,17 @@ range_differs : DiffersAtKeys (AreSyms body_syms) (AreSyms range_syms) IsRangeKe
 range_differs more ws h =
     elim h.3.2 [
       | inl n ↦ inl (subst (AreSyms body_syms more) (sym (h.2 ∙ ap (λ us. us ++ h.1) n.0)) h.4)
-      | inr r ↦ inr (codes "range", Word r.0 ∷ Word r.1 ∷ Close ∷ h.1, h.2 ∙ ap (λ us. us ++ h.1) r.2, refl)
+      | inr r ↦ inr (
+        codes "range",
+        Word r.0 ∷ Word r.1 ∷ Close ∷ h.1,
+        h.2
+            ∙ ap (λ us. us ++ h.1) r.2,
+        refl,
+      )
     ]
 
-pub range_absent : (ts : List Placed) → ((after : List Placed) → IsOpening ts (codes "range") after → ⊥)
+pub range_absent : (ts : List Placed)
+    → ((after : List Placed) → IsOpening ts (codes "range") after → ⊥)
     → IsHeaderPart ARange body_syms (λ ws. IsRange ws 4194304 1073741824) ts ts
 range_absent ts none = record {
   front = [];
@@ -157,7 +170,8 @@ range_absent ts none = record {
   value = inl (refl, refl, refl);
   leads = λ stop h.
       unless_key (AreSyms body_syms) (AreSyms range_syms) IsRangeKey ts stop no_range range_differs
-      (λ k after o is. let P : List ℕ → Type 0 = λ u. IsOpening ts u after in none after (subst P is o)) body_open
+      (λ k after o is. let P : List ℕ
+      → Type 0 = λ u. IsOpening ts u after in none after (subst P is o)) body_open
       (codes "freeze") body_freeze no_number_freeze h;
 }
 
@@ -181,17 +195,26 @@ range_lead ts after o stop h =
           (subst (AreSyms body_syms more) (sym q) a.4) in
           absurd (omega arith)
       | inr r ↦
-          let q : Open ∷ Word (codes "range") ∷ ws ≡ Open ∷ Word (codes "range") ∷ Word r.0 ∷ Word r.1 ∷ Close ∷ a.1 = a.2 ∙ ap (λ us. us ++ a.1) r.2 in
-          let k : ws ≡ Word r.0 ∷ Word r.1 ∷ Close ∷ a.1 = cc in
-          (Word r.0 ∷ Word r.1 ∷ Close ∷ [], a.1, k, (r.0, r.1, a.3.0, a.3.1, refl, r.3, r.4, r.5), a.4)
+          let q : Open ∷ Word (codes "range") ∷ ws ≡ Open ∷ Word (codes "range") ∷ Word r.0
+          ∷ Word r.1 ∷ Close ∷ a.1 = a.2 ∙ ap (λ us. us ++ a.1) r.2 in
+          let k : ws ≡ Word r.0 ∷ Word r.1 ∷ Close ∷ a.1 = cc in (
+            Word r.0 ∷ Word r.1 ∷ Close ∷ [],
+            a.1,
+            k,
+            (r.0, r.1, a.3.0, a.3.1, refl, r.3, r.4, r.5),
+            a.4,
+          )
     ]) h
 
-pub range_fails : (ts after : List Placed) (stop : Stop) → IsOpening ts (codes "range") after → Fails (Low ∷ []) after stop
+pub range_fails : (ts after : List Placed) (stop : Stop) → IsOpening ts (codes "range") after
+    → Fails (Low ∷ []) after stop
     → WhyStops (AreSyms range_syms) ts stop
 range_fails ts after stop o f = range_lead ts after o stop (f.why body_syms (solid_end 63 [] done))
 
-opening_words : (ts after end front : List Placed) (k : List ℕ) → IsOpening ts k after → after ≡ front ++ end
-    → (whole : List Placed) × (ts ≡ whole ++ end) × (words_of whole ≡ Open ∷ Word k ∷ words_of front)
+opening_words : (ts after end front : List Placed) (k : List ℕ) → IsOpening ts k after
+    → after ≡ front ++ end
+    → (whole : List Placed) × (ts ≡ whole ++ end)
+    × (words_of whole ≡ Open ∷ Word k ∷ words_of front)
 opening_words ts after end front k o e = (
   o.0 ∷ o.1 ∷ front,
   o.2 ∙ ap (λ us. o.0 ∷ o.1 ∷ us) e,
@@ -219,12 +242,16 @@ IsStartKey k = (k ≡ codes "entry") ⊎ (k ≡ codes "no_entry")
 abbrev start_syms : List Sym
 start_syms = AStart ∷ range_syms
 
-pub no_start : (more : ℕ) (ws : List Token) → AreSyms range_syms more ws → AreSyms start_syms more ws
+pub no_start : (more : ℕ) (ws : List Token) → AreSyms range_syms more ws
+    → AreSyms start_syms more ws
 no_start more ws h = ([], ws, refl, (Named (codes "_start"), inl (refl, refl)), h)
 
-start_split : (more : ℕ) (ws front rest : List Token) (s : Start) → ws ≡ front ++ rest → IsStart front s → AreSyms range_syms more rest
-    → AreSyms range_syms more ws ⊎ ((k : List ℕ) × (us : List Token) × (ws ≡ Open ∷ Word k ∷ us) × IsStartKey k)
-start_split more ws front rest (Named name) e (inl n) a = inl (subst (AreSyms range_syms more) (sym (e ∙ ap (λ us. us ++ rest) n.0)) a)
+start_split : (more : ℕ) (ws front rest : List Token) (s : Start) → ws ≡ front ++ rest
+    → IsStart front s → AreSyms range_syms more rest
+    → AreSyms range_syms more ws
+    ⊎ ((k : List ℕ) × (us : List Token) × (ws ≡ Open ∷ Word k ∷ us) × IsStartKey k)
+start_split more ws front rest (Named name) e (inl n) a =
+    inl (subst (AreSyms range_syms more) (sym (e ∙ ap (λ us. us ++ rest) n.0)) a)
 start_split more ws front rest (Named name) e (inr n) a =
     inr (codes "entry", Word name ∷ Close ∷ rest, e ∙ ap (λ us. us ++ rest) n.0, inl refl)
 start_split more ws front rest NoEntry e n a =
@@ -241,30 +268,36 @@ start_absent ts name is none = record {
   parts = refl;
   value = inl (refl, is);
   leads = λ stop h.
-      unless_key (AreSyms range_syms) (AreSyms start_syms) IsStartKey ts stop no_start start_differs none range_open
+      unless_key (AreSyms range_syms) (AreSyms start_syms) IsStartKey ts stop no_start start_differs
+      none range_open
       (codes "freeze") range_freeze no_number_freeze h;
 }
 
-entry_front : (more : ℕ) (ws front rest : List Token) (s : Start) → Open ∷ Word (codes "entry") ∷ ws ≡ front ++ rest → IsStart front s
+entry_front : (more : ℕ) (ws front rest : List Token) (s : Start)
+    → Open ∷ Word (codes "entry") ∷ ws ≡ front ++ rest → IsStart front s
     → AreSyms range_syms more rest → AreSyms (AName ∷ It Close ∷ range_syms) more ws
 entry_front more ws front rest (Named name) e (inl n) a =
     let q : Open ∷ Word (codes "entry") ∷ ws ≡ rest = e ∙ ap (λ us. us ++ rest) n.0 in
     absurd (no_start_word more (Open ∷ Word (codes "entry") ∷ ws) 1 refl (omega arith) (omega arith)
     (subst (AreSyms range_syms more) (sym q) a))
 entry_front more ws front rest (Named name) e (inr n) a =
-    let q : Open ∷ Word (codes "entry") ∷ ws ≡ Open ∷ Word (codes "entry") ∷ Word name ∷ Close ∷ rest = e ∙ ap (λ us. us ++ rest) n.0 in
+    let q : Open ∷ Word (codes "entry") ∷ ws ≡ Open ∷ Word (codes "entry") ∷ Word name ∷ Close
+    ∷ rest = e ∙ ap (λ us. us ++ rest) n.0 in
     let k : ws ≡ Word name ∷ Close ∷ rest = cc in
     (Word name ∷ [], Close ∷ rest, k, (name, refl, n.1), (Close ∷ [], rest, refl, refl, a))
 entry_front more ws front rest NoEntry e n a =
     absurd (omega (arith, ap part_kind (e ∙ ap (λ us. us ++ rest) n)))
 
 entry_lead : (ts after : List Placed) → IsOpening ts (codes "entry") after → (stop : Stop)
-    → WhyStops (AreSyms (AName ∷ It Close ∷ range_syms)) after stop → WhyStops (AreSyms start_syms) ts stop
+    → WhyStops (AreSyms (AName ∷ It Close ∷ range_syms)) after stop
+    → WhyStops (AreSyms start_syms) ts stop
 entry_lead ts after o stop h =
-    opened_lead (AreSyms (AName ∷ It Close ∷ range_syms)) (AreSyms start_syms) (codes "entry") ts after stop o
+    opened_lead (AreSyms (AName ∷ It Close ∷ range_syms)) (AreSyms start_syms) (codes "entry") ts
+    after stop o
     (λ more ws a.
     let b = a.4 in
-    let k : ws ≡ Word a.3.0 ∷ Close ∷ b.1 = a.2 ∙ ap (λ us. us ++ a.1) a.3.1 ∙ ap (λ us. Word a.3.0 ∷ us) (b.2 ∙ ap (λ us. us ++ b.1) b.3) in (
+    let k : ws ≡ Word a.3.0 ∷ Close ∷ b.1 = a.2 ∙ ap (λ us. us ++ a.1) a.3.1
+    ∙ ap (λ us. Word a.3.0 ∷ us) (b.2 ∙ ap (λ us. us ++ b.1) b.3) in (
       Open ∷ Word (codes "entry") ∷ Word a.3.0 ∷ Close ∷ [],
       b.1,
       ap (λ us. Open ∷ Word (codes "entry") ∷ us) k,
@@ -273,13 +306,16 @@ entry_lead ts after o stop h =
     ))
     (λ more ws a. entry_front more ws a.0 a.1 a.3.0 a.2 a.3.1 a.4) h
 
-pub entry_fails : (ts after : List Placed) (stop : Stop) → IsOpening ts (codes "entry") after → Fails (AName ∷ It Close ∷ []) after stop
+pub entry_fails : (ts after : List Placed) (stop : Stop) → IsOpening ts (codes "entry") after
+    → Fails (AName ∷ It Close ∷ []) after stop
     → WhyStops (AreSyms start_syms) ts stop
 entry_fails ts after stop o f =
-    entry_lead ts after o stop (f.why range_syms (λ more. let b = range_open more in (Open ∷ b.0, b.1)))
+    entry_lead ts after o stop
+    (f.why range_syms (λ more. let b = range_open more in (Open ∷ b.0, b.1)))
 
 pub entry_read : (ts after end : List Placed) (name : List ℕ) → IsOpening ts (codes "entry") after
-    → AreRead (AName ∷ It Close ∷ []) (λ ws. (ws ≡ Word name ∷ Close ∷ []) × IsSymName name) after end
+    → AreRead (AName ∷ It Close ∷ []) (λ ws. (ws ≡ Word name ∷ Close ∷ []) × IsSymName name) after
+    end
     → IsHeaderPart AStart range_syms (λ ws. IsStart ws (Named name)) ts end
 entry_read ts after end name o r =
     let w = opening_words ts after end r.front (codes "entry") o r.parts in
@@ -290,22 +326,26 @@ entry_read ts after end name o r =
       leads = λ stop h. entry_lead ts after o stop (r.leads range_syms stop h);
     }
 
-none_front : (more : ℕ) (ws front rest : List Token) (s : Start) → Open ∷ Word (codes "no_entry") ∷ ws ≡ front ++ rest → IsStart front s
+none_front : (more : ℕ) (ws front rest : List Token) (s : Start)
+    → Open ∷ Word (codes "no_entry") ∷ ws ≡ front ++ rest → IsStart front s
     → AreSyms range_syms more rest → AreSyms (It Close ∷ range_syms) more ws
 none_front more ws front rest (Named name) e (inl n) a =
     let q : Open ∷ Word (codes "no_entry") ∷ ws ≡ rest = e ∙ ap (λ us. us ++ rest) n.0 in
-    absurd (no_start_word more (Open ∷ Word (codes "no_entry") ∷ ws) 2 refl (omega arith) (omega arith)
+    absurd (no_start_word more (Open ∷ Word (codes "no_entry") ∷ ws) 2 refl (omega arith)
+    (omega arith)
     (subst (AreSyms range_syms more) (sym q) a))
 none_front more ws front rest (Named name) e (inr n) a =
     absurd (omega (arith, ap part_kind (e ∙ ap (λ us. us ++ rest) n.0)))
 none_front more ws front rest NoEntry e n a =
-    let q : Open ∷ Word (codes "no_entry") ∷ ws ≡ Open ∷ Word (codes "no_entry") ∷ Close ∷ rest = e ∙ ap (λ us. us ++ rest) n in
+    let q : Open ∷ Word (codes "no_entry") ∷ ws ≡ Open ∷ Word (codes "no_entry") ∷ Close ∷ rest =
+    e ∙ ap (λ us. us ++ rest) n in
     let k : ws ≡ Close ∷ rest = cc in (Close ∷ [], rest, k, refl, a)
 
 none_lead : (ts after : List Placed) → IsOpening ts (codes "no_entry") after → (stop : Stop)
     → WhyStops (AreSyms (It Close ∷ range_syms)) after stop → WhyStops (AreSyms start_syms) ts stop
 none_lead ts after o stop h =
-    opened_lead (AreSyms (It Close ∷ range_syms)) (AreSyms start_syms) (codes "no_entry") ts after stop o
+    opened_lead (AreSyms (It Close ∷ range_syms)) (AreSyms start_syms) (codes "no_entry") ts after
+    stop o
     (λ more ws a. (
       Open ∷ Word (codes "no_entry") ∷ Close ∷ [],
       a.1,
@@ -315,10 +355,12 @@ none_lead ts after o stop h =
     ))
     (λ more ws a. none_front more ws a.0 a.1 a.3.0 a.2 a.3.1 a.4) h
 
-pub none_fails : (ts after : List Placed) (stop : Stop) → IsOpening ts (codes "no_entry") after → Fails (It Close ∷ []) after stop
+pub none_fails : (ts after : List Placed) (stop : Stop) → IsOpening ts (codes "no_entry") after
+    → Fails (It Close ∷ []) after stop
     → WhyStops (AreSyms start_syms) ts stop
 none_fails ts after stop o f =
-    none_lead ts after o stop (f.why range_syms (λ more. let b = range_open more in (Open ∷ b.0, b.1)))
+    none_lead ts after o stop
+    (f.why range_syms (λ more. let b = range_open more in (Open ∷ b.0, b.1)))
 
 pub none_read : (ts after end : List Placed) → IsOpening ts (codes "no_entry") after
     → AreRead (It Close ∷ []) (λ ws. ws ≡ Close ∷ []) after end
@@ -333,7 +375,8 @@ none_read ts after end o r =
     }
 
 -- the openings that do not count
-pub one_opening : (ts after after' : List Placed) (k k' : List ℕ) → IsOpening ts k after → IsOpening ts k' after' → k ≡ k'
+pub one_opening : (ts after after' : List Placed) (k k' : List ℕ) → IsOpening ts k after
+    → IsOpening ts k' after' → k ≡ k'
 one_opening ts after after' k k' o p =
     let q : o.0 ∷ o.1 ∷ after ≡ p.0 ∷ p.1 ∷ after' = sym o.2 ∙ p.2 in
     let same : o.1 ≡ p.1 = cc in

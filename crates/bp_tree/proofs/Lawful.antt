@@ -1,5 +1,6 @@
 -- What a text says is a blueprint: its merges have two operands, and it nests as deep as it may.
-use Rattle.std.proofs.Common.{◌≡◌, ◌≤◌, ℕ, zero, suc, ◌+◌, Bool, true, ◌&&◌, nat_le, max, fold, map, List, [], ◌∷◌, refl, sym, ap, subst, ◌∙◌, inl, inr, arith, length}
+use Rattle.std.proofs.Common.{◌≡◌, ◌≤◌, ℕ, zero, suc, ◌+◌, Bool, true, ◌&&◌, nat_le, max, fold, map}
+use Rattle.std.proofs.Common.{List, [], ◌∷◌, refl, sym, ap, subst, ◌∙◌, inl, inr, arith, length}
 use Rattle.std.specs.List.{list_all}
 use Rattle.omos_model.specs.Names.{Name}
 use Rattle.omos_model.specs.Op.{Op, Rename, Restrict, Freeze, Hide, Show, CopyAs}
@@ -7,7 +8,8 @@ use Rattle.omos_model.specs.ImageParts.{formed_layer, is_formed, nesting_layer, 
 use Rattle.omos_model.specs.declared.expr.Expr.{Expr}
 use Rattle.omos_model.specs.declared.expr.Expr.TheVariants as expr
 use Rattle.bp_tree.specs.Tokens.{Token}
-use Rattle.bp_tree.specs.Grammar.{IsExpr, IsPathOf, IsOpened, Merges, Overrides, Applies, AreExprs, op_nesting, applied}
+use Rattle.bp_tree.specs.Grammar.{IsExpr, IsPathOf, IsOpened, Merges, Overrides, Applies, AreExprs}
+use Rattle.bp_tree.specs.Grammar.{op_nesting, applied}
 use Rattle.bp_tree.specs.Named.{paths_layer}
 use Rattle.bp_tree.proofs.Layers.{op_layer, fold_path, fold_merge, fold_override, fold_applied}
 
@@ -21,16 +23,20 @@ path_fits n ts e h =
     let d : nesting (expr.Path p) ≡ 0 = fold_path nesting_layer p in
     (ap is_formed h.2 ∙ f, omega (arith, ap nesting h.2, d))
 
-all_formed : (P : List Token → Expr → Type 0) (n : ℕ) → ((ts : List Token) (x : Expr) → P ts x → IsFit n x)
-    → (ts : List Token) (xs : List Expr) → AreExprs P ts xs → list_all (λ x. x) (map is_formed xs) ≡ true
+all_formed : (P : List Token → Expr → Type 0) (n : ℕ)
+    → ((ts : List Token) (x : Expr) → P ts x → IsFit n x)
+    → (ts : List Token) (xs : List Expr) → AreExprs P ts xs
+    → list_all (λ x. x) (map is_formed xs) ≡ true
 all_formed P n fits ts [] are = refl
 all_formed P n fits ts (x ∷ xs) are =
     let h : is_formed x ≡ true = (fits are.0 x are.3).0 in
     let k : list_all (λ b. b) (map is_formed xs) ≡ true = all_formed P n fits are.1 xs are.4 in
     rw (h, k) refl
 
-all_low : (P : List Token → Expr → Type 0) (n : ℕ) → ((ts : List Token) (x : Expr) → P ts x → IsFit n x)
-    → (ts : List Token) (xs : List Expr) (m : ℕ) → m ≤ n → AreExprs P ts xs → fold max m (map nesting xs) ≤ n
+all_low : (P : List Token → Expr → Type 0) (n : ℕ)
+    → ((ts : List Token) (x : Expr) → P ts x → IsFit n x)
+    → (ts : List Token) (xs : List Expr) (m : ℕ) → m ≤ n → AreExprs P ts xs
+    → fold max m (map nesting xs) ≤ n
 all_low P n fits ts [] m low are = low
 all_low P n fits ts (x ∷ xs) m low are =
     let h : nesting x ≤ n = (fits are.0 x are.3).1 in
@@ -43,7 +49,8 @@ formed_count (x ∷ xs) = omega (arith, formed_count xs)
 merge_fits : (n : ℕ) (xs : List Expr) → 2 ≤ length xs → list_all (λ x. x) (map is_formed xs) ≡ true
     → fold max 0 (map nesting xs) ≤ n → IsFit (suc n) (expr.Merge xs)
 merge_fits n xs two all low =
-    let f : is_formed (expr.Merge xs) ≡ (nat_le 2 (length (map is_formed xs)) && list_all (λ x. x) (map is_formed xs)) =
+    let f : is_formed (expr.Merge xs)
+    ≡ (nat_le 2 (length (map is_formed xs)) && list_all (λ x. x) (map is_formed xs)) =
     fold_merge formed_layer xs in
     let d : nesting (expr.Merge xs) ≡ fold max 0 (map nesting xs) + 1 =
     fold_merge nesting_layer xs in
@@ -85,7 +92,8 @@ op_paths (Hide a) ps = refl
 op_paths (Show names) ps = refl
 op_paths (CopyAs a b) ps = refl
 
-op_fits : (n : ℕ) (op : Op) (x : Expr) → IsFit n x → op_nesting op ≤ n → IsFit (suc n) (applied op x)
+op_fits : (n : ℕ) (op : Op) (x : Expr) → IsFit n x → op_nesting op ≤ n
+    → IsFit (suc n) (applied op x)
 op_fits n op x h nest =
     let f : is_formed (applied op x) ≡ is_formed x =
     fold_applied formed_layer op x ∙ op_formed op (is_formed x) in
@@ -96,7 +104,9 @@ op_fits n op x h nest =
 opened_fits : (n : ℕ) → ((ts : List Token) (x : Expr) → IsExpr n ts x → IsFit n x)
     → (ts : List Token) (e : Expr) → IsOpened n (IsExpr n) ts e → IsFit (suc n) e
 opened_fits n fits ts e (Merges inner xs eq is two are) =
-    subst (IsFit (suc n)) (sym is) (merge_fits n xs two (all_formed (IsExpr n) n fits inner xs are) (all_low (IsExpr n) n fits inner xs 0 (omega arith) are))
+    subst (IsFit (suc n)) (sym is)
+    (merge_fits n xs two (all_formed (IsExpr n) n fits inner xs are)
+    (all_low (IsExpr n) n fits inner xs 0 (omega arith) are))
 opened_fits n fits ts e (Overrides l r x y eq is px py) =
     subst (IsFit (suc n)) (sym is) (override_fits n x y (fits l x px) (fits r y py))
 opened_fits n fits ts e (Applies op inner x eq is isop nest px) =

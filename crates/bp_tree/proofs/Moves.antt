@@ -1,17 +1,19 @@
 -- How a stop of what follows is one of the whole.
 use Rattle.std.proofs.Common.{◌≡◌, ℕ, List, [], ◌∷◌, ◌++◌, refl, ap}
 use Rattle.omos_model.specs.declared.refusal.BpFault.{BpFault}
-use Rattle.omos_model.specs.declared.refusal.BpFault.TheVariants.{Long, Byte, Shape, Deep, Number, Range}
+use Rattle.omos_model.specs.declared.refusal.BpFault.TheVariants.{Long, Byte, Shape, Deep, Number}
+use Rattle.omos_model.specs.declared.refusal.BpFault.TheVariants.{Range}
 use Rattle.bp_tree.specs.Tokens.{Token, Word, Placed}
 use Rattle.bp_tree.specs.Texts.{words_of}
 use Rattle.bp_tree.specs.TextFaults.{Language, Begins, CallsForNumber, IsTooDeep, IsTokenFault}
-use Rattle.bp_tree.specs.Symbols.{WhyStops}
+use Rattle.bp_tree.specs.inside.Symbols.{WhyStops}
 use Rattle.bp_tree.specs.declared.stop.Stop.{Stop}
 use Rattle.bp_tree.specs.declared.stop.Stop.TheVariants.{Early, At}
 
 -- with one more token, L begins after us what K does after ts
 abbrev pub Onward : Language → List Token → Language → List Token → Type 0
-Onward K ts L us = (more : ℕ) (t : Token) → Begins K more (ts ++ t ∷ []) → Begins L more (us ++ t ∷ [])
+Onward K ts L us = (more : ℕ) (t : Token) → Begins K more (ts ++ t ∷ [])
+    → Begins L more (us ++ t ∷ [])
 
 pub calls_moved : (K L : Language) (ts us : List Token) → Onward K ts L us → Onward L us K ts
     → CallsForNumber K ts → CallsForNumber L us

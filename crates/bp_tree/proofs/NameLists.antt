@@ -1,12 +1,13 @@
 -- Names up to a parenthesis.
-use Rattle.std.proofs.Common.{◌≡◌, ℕ, List, [], ◌∷◌, ◌++◌, refl, sym, ap, subst, ◌∙◌, inl, All, map, append_assoc, arith}
+use Rattle.std.proofs.Common.{◌≡◌, ℕ, List, [], ◌∷◌, ◌++◌, refl, sym, ap, subst, ◌∙◌, inl, All, map}
+use Rattle.std.proofs.Common.{append_assoc, arith}
 use Rattle.std.proofs.lemmas.List.{map-append}
 use Rattle.std.proofs.lemmas.List.Elements.{All-nil, All-cons, All-tail, All-append}
 use Rattle.omos_base.specs.SymNames.{IsSymName}
 use Rattle.omos_model.specs.declared.refusal.BpFault.TheVariants.{Shape}
 use Rattle.bp_tree.specs.Tokens.{Token, Open, Close, Word, Placed}
 use Rattle.bp_tree.specs.Texts.{words_of}
-use Rattle.bp_tree.specs.Symbols.{Sym, Names, AreSyms, Fails, AreRead, HasGrown, WhyStops}
+use Rattle.bp_tree.specs.inside.Symbols.{Sym, Names, AreSyms, Fails, AreRead, HasGrown, WhyStops}
 use Rattle.bp_tree.specs.declared.stop.Stop.{Stop}
 use Rattle.bp_tree.specs.declared.stop.Stop.TheVariants.{Early, At}
 use Rattle.bp_tree.proofs.Samples.{name_a, no_number_a}
@@ -30,7 +31,8 @@ words-append xs ys = map-append (λ t. t.token) xs ys
 pub grows : (s : Sym) (V W : List Token → Type 0) (ts now after : List Placed) (t : Placed)
     → HasGrown s V ts now → now ≡ t ∷ after
     → ((ws : List Token) → V ws → W (ws ++ t.token ∷ []))
-    → ((ss : List Sym) (stop : Stop) → WhyStops (AreSyms (s ∷ ss)) after stop → WhyStops (AreSyms (s ∷ ss)) now stop)
+    → ((ss : List Sym) (stop : Stop) → WhyStops (AreSyms (s ∷ ss)) after stop
+    → WhyStops (AreSyms (s ∷ ss)) now stop)
     → HasGrown s W ts after
 grows s V W ts now after t g e more lead = record {
   front = g.front ++ t ∷ [];
@@ -43,7 +45,8 @@ grows s V W ts now after t g e more lead = record {
 pub ends : (s : Sym) (V W : List Token → Type 0) (ts now after : List Placed) (t : Placed)
     → HasGrown s V ts now → now ≡ t ∷ after
     → ((ws : List Token) → V ws → W (ws ++ t.token ∷ []))
-    → ((ss : List Sym) (stop : Stop) → WhyStops (AreSyms ss) after stop → WhyStops (AreSyms (s ∷ ss)) now stop)
+    → ((ss : List Sym) (stop : Stop) → WhyStops (AreSyms ss) after stop
+    → WhyStops (AreSyms (s ∷ ss)) now stop)
     → AreRead (s ∷ []) W ts after
 ends s V W ts now after t g e more lead = record {
   front = g.front ++ t ∷ [];
@@ -64,10 +67,12 @@ names_sample more = (Close ∷ [], ([], refl, All-nil IsSymName))
 pub names_early : (ts : List Placed) → ts ≡ [] → Fails (Names ∷ []) ts Early
 names_early ts e = fails_early Names ts names_sample names_full e
 
-no_other : (t : Token) (tail : List Token) (ns : List (List ℕ)) → t ∷ tail ≡ map Word ns ++ Close ∷ []
+no_other : (t : Token) (tail : List Token) (ns : List (List ℕ))
+    → t ∷ tail ≡ map Word ns ++ Close ∷ []
     → All IsSymName ns → (t ≡ Close → ⊥) → ((n : List ℕ) → t ≡ Word n → IsSymName n → ⊥) → ⊥
 no_other t tail [] e all closes names = let same : t ≡ Close = cc in closes same
-no_other t tail (n ∷ ns) e all closes names = let same : t ≡ Word n = cc in names n same (all 0 n (omega arith))
+no_other t tail (n ∷ ns) e all closes names = let same : t ≡ Word n =
+    cc in names n same (all 0 n (omega arith))
 
 pub names_shape : (ts : List Placed) (t : Placed) (after : List Placed) → ts ≡ t ∷ after
     → (t.token ≡ Close → ⊥) → ((n : List ℕ) → t.token ≡ Word n → IsSymName n → ⊥)
@@ -75,16 +80,23 @@ pub names_shape : (ts : List Placed) (t : Placed) (after : List Placed) → ts �
 names_shape ts t after e closes names = fails_shape Names ts t after names_sample names_full e
     (λ tail is. no_other t.token tail is.0 is.1 is.2 closes names)
     (λ opens more tail is. no_other Open tail is.0 is.1 is.2 (λ h. cc) (λ n h k. cc))
-    (inl (97 ∷ [], Close ∷ [], ((97 ∷ []) ∷ [], refl, All-cons IsSymName (97 ∷ []) [] name_a (All-nil IsSymName)), no_number_a))
+    (inl (
+      97 ∷ [],
+      Close ∷ [],
+      ((97 ∷ []) ∷ [], refl, All-cons IsSymName (97 ∷ []) [] name_a (All-nil IsSymName)),
+      no_number_a,
+    ))
 
 -- what follows the first of them
-tail_names : (n : List ℕ) (ws front rest : List Token) (ns : List (List ℕ)) → Word n ∷ ws ≡ front ++ rest
+tail_names : (n : List ℕ) (ws front rest : List Token) (ns : List (List ℕ))
+    → Word n ∷ ws ≡ front ++ rest
     → front ≡ map Word ns ++ Close ∷ [] → All IsSymName ns
     → (ms : List (List ℕ)) × (ws ≡ (map Word ms ++ Close ∷ []) ++ rest) × All IsSymName ms
 tail_names n ws front rest [] e is all =
     let e' : Word n ∷ ws ≡ Close ∷ rest = e ∙ ap (λ us. us ++ rest) is in absurd cc
 tail_names n ws front rest (m ∷ ms) e is all =
-    let e' : Word n ∷ ws ≡ Word m ∷ ((map Word ms ++ Close ∷ []) ++ rest) = e ∙ ap (λ us. us ++ rest) is in
+    let e' : Word n ∷ ws ≡ Word m ∷ ((map Word ms ++ Close ∷ []) ++ rest) =
+    e ∙ ap (λ us. us ++ rest) is in
     let w : ws ≡ (map Word ms ++ Close ∷ []) ++ rest = cc in
     (ms, w, All-tail IsSymName m ms all)
 
@@ -110,14 +122,16 @@ closed_names : (ws front rest : List Token) (ns : List (List ℕ)) → Close ∷
 closed_names ws front rest [] e is =
     let e' : Close ∷ ws ≡ Close ∷ rest = e ∙ ap (λ us. us ++ rest) is in cc
 closed_names ws front rest (m ∷ ms) e is =
-    let e' : Close ∷ ws ≡ Word m ∷ ((map Word ms ++ Close ∷ []) ++ rest) = e ∙ ap (λ us. us ++ rest) is in absurd cc
+    let e' : Close ∷ ws ≡ Word m ∷ ((map Word ms ++ Close ∷ []) ++ rest) =
+    e ∙ ap (λ us. us ++ rest) is in absurd cc
 
 pub names_end : (ts : List Placed) (t : Placed) (after : List Placed) → ts ≡ t ∷ after
     → t.token ≡ Close → (ss : List Sym) (stop : Stop)
     → WhyStops (AreSyms ss) after stop → WhyStops (AreSyms (Names ∷ ss)) ts stop
 names_end ts t after e same = leads_step (Names ∷ []) [] t ts after e
     (λ ss more ws a. (Close ∷ [], ws, ap (λ u. u ∷ ws) same, ([], refl, All-nil IsSymName), a))
-    (λ ss more ws a. subst (AreSyms ss more) (closed_names ws a.0 a.1 a.3.0 (ap (λ u. u ∷ ws) (sym same) ∙ a.2) a.3.1) a.4)
+    (λ ss more ws a. subst (AreSyms ss more)
+    (closed_names ws a.0 a.1 a.3.0 (ap (λ u. u ∷ ws) (sym same) ∙ a.2) a.3.1) a.4)
 
 -- ---- the answers of the loop
 

@@ -1,5 +1,6 @@
 -- Expressions, and what stands behind their first parenthesis.
-use Rattle.std.proofs.Common.{◌≡◌, ◌≤◌, ℕ, ◌+◌, List, [], ◌∷◌, ◌++◌, refl, sym, ap, subst, ◌∙◌, codes, map, length, append_assoc, arith}
+use Rattle.std.proofs.Common.{◌≡◌, ◌≤◌, ℕ, ◌+◌, List, [], ◌∷◌, ◌++◌, refl, sym, ap, subst, ◌∙◌}
+use Rattle.std.proofs.Common.{codes, map, length, append_assoc, arith}
 use Rattle.std.proofs.lemmas.List.{append-nil}
 use Rattle.omos_base.specs.SymNames.{IsSymName}
 use Rattle.omos_model.specs.Names.{Name}
@@ -7,8 +8,10 @@ use Rattle.omos_model.specs.Op.{Op, Rename, Restrict, Freeze, Hide, Show, CopyAs
 use Rattle.omos_model.specs.declared.expr.Expr.{Expr}
 use Rattle.omos_model.specs.declared.expr.Expr.TheVariants as expr
 use Rattle.bp_tree.specs.Tokens.{Token, Open, Close, Word}
-use Rattle.bp_tree.specs.Grammar.{IsExpr, IsOpened, Merges, Overrides, Applies, AreExprs, op_words, IsOp, op_nesting, applied}
-use Rattle.bp_tree.specs.Symbols.{Sym, It, AName, AnExpr, AreSyms, behind, keyword, operator_keyword, arguments, form_nesting, kind_nesting}
+use Rattle.bp_tree.specs.Grammar.{IsExpr, IsOpened, Merges, Overrides, Applies, AreExprs, op_words}
+use Rattle.bp_tree.specs.Grammar.{IsOp, op_nesting, applied}
+use Rattle.bp_tree.specs.inside.Symbols.{Sym, It, AName, AnExpr, AreSyms, behind, keyword}
+use Rattle.bp_tree.specs.inside.Symbols.{operator_keyword, arguments, form_nesting, kind_nesting}
 use Rattle.bp_tree.specs.declared.form.Form.{Form}
 use Rattle.bp_tree.specs.declared.form.Form.TheVariants as form
 use Rattle.bp_tree.specs.declared.form.Applied.{Applied}
@@ -18,16 +21,28 @@ use Rattle.bp_tree.specs.declared.form.Applied.TheVariants as kind
 
 pub both : (a b : List Sym) (more : ℕ) (xs ys : List Token) → AreSyms a more xs → AreSyms b more ys
     → AreSyms (a ++ b) more (xs ++ ys)
-both [] b more xs ys h k = let P : List Token → Type 0 = AreSyms b more in subst P (ap (λ us. us ++ ys) (sym h)) k
-both (s ∷ a) b more xs ys h k =
-    (h.0, h.1 ++ ys, ap (λ us. us ++ ys) h.2 ∙ append_assoc h.0 h.1 ys, h.3, both a b more h.1 ys h.4 k)
+both [] b more xs ys h k = let P : List Token → Type 0 =
+    AreSyms b more in subst P (ap (λ us. us ++ ys) (sym h)) k
+both (s ∷ a) b more xs ys h k = (
+  h.0,
+  h.1 ++ ys,
+  ap (λ us. us ++ ys) h.2 ∙ append_assoc h.0 h.1 ys,
+  h.3,
+  both a b more h.1 ys h.4 k,
+)
 
 pub apart : (a b : List Sym) (more : ℕ) (ws : List Token) → AreSyms (a ++ b) more ws
-    → (xs : List Token) × (ys : List Token) × (ws ≡ xs ++ ys) × AreSyms a more xs × AreSyms b more ys
+    → (xs : List Token) × (ys : List Token) × (ws ≡ xs ++ ys) × AreSyms a more xs
+    × AreSyms b more ys
 apart [] b more ws h = ([], ws, refl, refl, h)
 apart (s ∷ a) b more ws h =
-    let r = apart a b more h.1 h.4 in
-    (h.0 ++ r.0, r.1, h.2 ∙ ap (λ us. h.0 ++ us) r.2 ∙ sym (append_assoc h.0 r.0 r.1), (h.0, r.0, refl, h.3, r.3), r.4)
+    let r = apart a b more h.1 h.4 in (
+      h.0 ++ r.0,
+      r.1,
+      h.2 ∙ ap (λ us. h.0 ++ us) r.2 ∙ sym (append_assoc h.0 r.0 r.1),
+      (h.0, r.0, refl, h.3, r.3),
+      r.4,
+    )
 
 -- ---- what stands behind each keyword
 
@@ -40,7 +55,8 @@ operand n room more ws h =
 
 operand_is : (room more : ℕ) (inner : List Token) (x : Expr) → IsExpr (room + more) inner x
     → AreSyms (AnExpr room ∷ It Close ∷ []) more (inner ++ Close ∷ [])
-operand_is room more inner x is = (inner, Close ∷ [], refl, (x, is), (Close ∷ [], [], refl, refl, refl))
+operand_is room more inner x is =
+    (inner, Close ∷ [], refl, (x, is), (Close ∷ [], [], refl, refl, refl))
 
 flat : (ws f r xs ys : List Token) → ws ≡ f ++ r → f ≡ xs → r ≡ ys → xs ++ ys ≡ ws
 flat ws f r xs ys e p q = sym (e ∙ ap (λ us. us ++ r) p ∙ ap (λ us. xs ++ us) q)
@@ -57,7 +73,8 @@ two_arguments more ws h =
 
 -- the operator of a kind, from its arguments
 args_op : (k : Applied) (more : ℕ) (ws : List Token) → AreSyms (arguments k) more ws
-    → (op : Op) × (op_words op ≡ Word (operator_keyword k) ∷ ws) × IsOp op × (op_nesting op ≡ kind_nesting k)
+    → (op : Op) × (op_words op ≡ Word (operator_keyword k) ∷ ws) × IsOp op
+    × (op_nesting op ≡ kind_nesting k)
 args_op kind.Rename more ws h =
     let a = two_arguments more ws h in
     (Rename a.0 a.1, ap (λ us. Word (codes "rename") ∷ us) (sym a.2), (a.3, a.4), refl)
@@ -88,7 +105,8 @@ is_argument more a is = (Word a ∷ [], [], refl, (a, refl, is), refl)
 
 are_arguments : (more : ℕ) (a b : Name) → IsSymName a → IsSymName b
     → AreSyms (AName ∷ AName ∷ []) more (Word a ∷ Word b ∷ [])
-are_arguments more a b is is' = (Word a ∷ [], Word b ∷ [], refl, (a, refl, is), is_argument more b is')
+are_arguments more a b is is' =
+    (Word a ∷ [], Word b ∷ [], refl, (a, refl, is), is_argument more b is')
 
 -- and its arguments
 pub op_args : (op : Op) (more : ℕ) → IsOp op
@@ -111,9 +129,11 @@ op_args (CopyAs a b) more is =
     (kind.CopyAs, Word a ∷ Word b ∷ [], refl, refl, are_arguments more a b is.0 is.1)
 
 -- a merge's tokens, in both groupings
-pub regrouped : (f g inner : List Token) → f ++ (g ++ (inner ++ Close ∷ [])) ≡ (f ++ (g ++ inner)) ++ Close ∷ []
+pub regrouped : (f g inner : List Token)
+    → f ++ (g ++ (inner ++ Close ∷ [])) ≡ (f ++ (g ++ inner)) ++ Close ∷ []
 regrouped f g inner =
-    ap (λ us. f ++ us) (sym (append_assoc g inner (Close ∷ []))) ∙ sym (append_assoc f (g ++ inner) (Close ∷ []))
+    ap (λ us. f ++ us) (sym (append_assoc g inner (Close ∷ [])))
+    ∙ sym (append_assoc f (g ++ inner) (Close ∷ []))
 
 pub form_opens : (f : Form) (room more : ℕ) (ws : List Token) → form_nesting f ≤ room + more
     → AreSyms (behind room f) more ws
@@ -127,14 +147,16 @@ form_opens form.Merge room more ws nest h =
     h.2 ∙ ap (λ us. h.0 ++ us) (g.2 ∙ ap (λ us. g.0 ++ us) tail) in (
       expr.Merge (h.3.0 ∷ g.3.0 ∷ k.3.1),
       Merges (h.0 ++ (g.0 ++ k.3.0)) (h.3.0 ∷ g.3.0 ∷ k.3.1)
-          (ap (λ us. Open ∷ Word (codes "merge") ∷ us) (all ∙ regrouped h.0 g.0 k.3.0)) refl (omega arith)
+          (ap (λ us. Open ∷ Word (codes "merge") ∷ us) (all ∙ regrouped h.0 g.0 k.3.0)) refl
+          (omega arith)
           (h.0, g.0 ++ k.3.0, refl, h.3.1, (g.0, k.3.0, refl, g.3.1, k.3.3)),
     )
 form_opens form.Override room more ws nest h =
     let o = operand 0 room more h.1 h.4 in (
       expr.Override h.3.0 o.1,
       Overrides h.0 o.0 h.3.0 o.1
-          (ap (λ us. Open ∷ Word (codes "override") ∷ us) (h.2 ∙ ap (λ us. h.0 ++ us) o.2)) refl h.3.1 o.3,
+          (ap (λ us. Open ∷ Word (codes "override") ∷ us) (h.2 ∙ ap (λ us. h.0 ++ us) o.2)) refl
+          h.3.1 o.3,
     )
 form_opens (form.Apply k) room more ws nest h =
     let r = apart (arguments k) (AnExpr room ∷ It Close ∷ []) more ws h in
@@ -147,7 +169,8 @@ form_opens (form.Apply k) room more ws nest h =
     (applied a.0 o.1, Applies a.0 o.0 o.1 (ap (λ us. Open ∷ us) all) refl a.2 fits o.3)
 
 two_of : (room more : ℕ) (inner : List Token) (xs : List Expr) → 2 ≤ length xs
-    → AreExprs (IsExpr (room + more)) inner xs → AreSyms (behind room form.Merge) more (inner ++ Close ∷ [])
+    → AreExprs (IsExpr (room + more)) inner xs
+    → AreSyms (behind room form.Merge) more (inner ++ Close ∷ [])
 two_of room more inner [] two are = absurd (omega arith)
 two_of room more inner (x ∷ []) two are = absurd (omega arith)
 two_of room more inner (x ∷ y ∷ xs) two are =
@@ -167,7 +190,8 @@ two_of room more inner (x ∷ y ∷ xs) two are =
 
 pub opened_form : (room more : ℕ) (ws : List Token) (e : Expr)
     → IsOpened (room + more) (IsExpr (room + more)) (Open ∷ ws) e
-    → (f : Form) × (body : List Token) × (ws ≡ Word (keyword f) ∷ body) × (form_nesting f ≤ room + more)
+    → (f : Form) × (body : List Token) × (ws ≡ Word (keyword f) ∷ body)
+    × (form_nesting f ≤ room + more)
     × AreSyms (behind room f) more body
 opened_form room more ws e (Merges inner xs eq is two are) =
     let k : ws ≡ Word (codes "merge") ∷ (inner ++ Close ∷ []) = cc in
@@ -188,5 +212,6 @@ opened_form room more ws e (Applies op inner x eq is isop nest px) =
       a.1 ++ (inner ++ Close ∷ []),
       k ∙ ap (λ us. us ++ (inner ++ Close ∷ [])) a.2,
       fits,
-      both (arguments a.0) (AnExpr room ∷ It Close ∷ []) more a.1 (inner ++ Close ∷ []) a.4 (operand_is room more inner x px),
+      both (arguments a.0) (AnExpr room ∷ It Close ∷ []) more a.1 (inner ++ Close ∷ []) a.4
+          (operand_is room more inner x px),
     )

@@ -3,8 +3,8 @@ use Rattle.std.proofs.Common.{◌≡◌, ℕ, List, [], ◌∷◌, ◌++◌, ref
 use Rattle.bp_tree.specs.Tokens.{Token, Open, Word, Placed}
 use Rattle.bp_tree.specs.Texts.{words_of}
 use Rattle.bp_tree.specs.TextFaults.{Language, Begins, IsNumberWord}
-use Rattle.bp_tree.specs.Symbols.{WhyStops}
-use Rattle.bp_tree.specs.Header.{IsOpening}
+use Rattle.bp_tree.specs.inside.Symbols.{WhyStops}
+use Rattle.bp_tree.specs.inside.Header.{IsOpening}
 use Rattle.bp_tree.specs.declared.stop.Stop.{Stop}
 use Rattle.bp_tree.proofs.Sequences.{narrowed}
 
@@ -26,7 +26,8 @@ opening (a ∷ b ∷ after) k rest e =
     let q : b.token ≡ Word k = cc in (after, (a, b, refl, p, q))
 
 -- a beginning that stands here, with a word or the next token after it
-kept : (K L : Language) (key : List ℕ → Type 0) (ts : List Placed) → DiffersAtKeys K L key → HasNone ts key
+kept : (K L : Language) (key : List ℕ → Type 0) (ts : List Placed) → DiffersAtKeys K L key
+    → HasNone ts key
     → (front : List Placed) (t : Placed) (behind : List Placed) → ts ≡ front ++ t ∷ behind
     → (u : Token) (more : ℕ) → Begins L more (words_of front ++ u ∷ [])
     → Begins K more (words_of front ++ u ∷ []) ⊎ (((front ≡ []) × (u ≡ Open))
@@ -41,8 +42,10 @@ kept K L key ts d none front t behind parts u more b =
         → (front : List Placed) (t : Placed) (behind : List Placed) → ts ≡ front ++ t ∷ behind
         → (u : Token) (rest : List Token) (k : List ℕ) (more : List Token)
         → (words_of front ++ u ∷ []) ++ rest ≡ Open ∷ Word k ∷ more → key k
-        → ((front ≡ []) × (u ≡ Open)) ⊎ ((words_of front ≡ Open ∷ []) × ((k : List ℕ) × (u ≡ Word k) × key k))
-    kept_at key ts none [] t behind parts u rest k more e is = let p : u ≡ Open = cc in inl (refl, p)
+        → ((front ≡ []) × (u ≡ Open))
+        ⊎ ((words_of front ≡ Open ∷ []) × ((k : List ℕ) × (u ≡ Word k) × key k))
+    kept_at key ts none [] t behind parts u rest k more e is = let p : u ≡ Open =
+        cc in inl (refl, p)
     kept_at key ts none (f ∷ []) t behind parts u rest k more e is =
         let p : f.token ≡ Open = cc in
         let q : u ≡ Word k = cc in inr (ap (λ x. x ∷ []) p, (k, q, is))
@@ -59,7 +62,8 @@ only key ts none (f ∷ []) t behind parts e k h is =
 only key ts none (f ∷ g ∷ fs) t behind parts e k h is = cc
 
 pub unless_key : (K L : Language) (key : List ℕ → Type 0) (ts : List Placed) (stop : Stop)
-    → ((more : ℕ) (ws : List Token) → K more ws → L more ws) → DiffersAtKeys K L key → HasNone ts key
+    → ((more : ℕ) (ws : List Token) → K more ws → L more ws) → DiffersAtKeys K L key
+    → HasNone ts key
     → ((more : ℕ) → Begins K more (Open ∷ []))
     → (v : List ℕ) → Begins K 0 (Open ∷ Word v ∷ []) → (IsNumberWord v → ⊥)
     → WhyStops K ts stop → WhyStops L ts stop
@@ -97,11 +101,14 @@ unless_key K L key ts stop incl d none opens v begins other h =
     ))
     h
   where
-    moved : (front : List Placed) → words_of front ≡ Open ∷ [] → Begins K 0 (words_of front ++ Word v ∷ [])
+    moved : (front : List Placed) → words_of front ≡ Open ∷ []
+        → Begins K 0 (words_of front ++ Word v ∷ [])
     moved front e =
         let P : List Token → Type 0 = λ us. Begins K 0 (us ++ Word v ∷ []) in subst P (sym e) begins
 
-    at_once : (front : List Placed) (u : Token) → front ≡ [] → u ≡ Open → (more : ℕ) → Begins K more (words_of front ++ u ∷ [])
+    at_once : (front : List Placed) (u : Token) → front ≡ [] → u ≡ Open → (more : ℕ)
+        → Begins K more (words_of front ++ u ∷ [])
     at_once front u e h more =
         let P : List Placed → Type 0 = λ us. Begins K more (words_of us ++ u ∷ []) in
-        let Q : Token → Type 0 = λ t. Begins K more (t ∷ []) in subst P (sym e) (subst Q (sym h) (opens more))
+        let Q : Token → Type 0 =
+        λ t. Begins K more (t ∷ []) in subst P (sym e) (subst Q (sym h) (opens more))

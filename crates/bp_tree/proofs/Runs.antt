@@ -1,10 +1,11 @@
 -- A word is a longest run of bytes that a name may have.
-use Rattle.std.proofs.Common.{◌≡◌, ℕ, zero, suc, ◌+◌, ◌≤◌, ◌==◌, Bool, true, false, IsTrue, List, [], ◌∷◌, ◌++◌}
+use Rattle.std.proofs.Common.{◌≡◌, ℕ, zero, suc, ◌+◌, ◌≤◌, ◌==◌, Bool, true, false, IsTrue, List}
+use Rattle.std.proofs.Common.{[], ◌∷◌, ◌++◌}
 use Rattle.std.proofs.Common.{length, refl, arith, ◌&&◌, ap, sym, subst, ◌∙◌, cond, take, drop}
 use Rattle.std.proofs.lemmas.List.{take-append-drop, length-take-le}
 use Rattle.std.specs.List.{list_all}
 use Rattle.omos_model.specs.Names.{is_name_byte}
-use Rattle.bp_tree.specs.Pending.{begins_comment, AtByte, AtToken, IsFirstWord}
+use Rattle.bp_tree.specs.inside.Pending.{begins_comment, AtByte, AtToken, IsFirstWord}
 use Rattle.bp_tree.specs.Tokens.{Word, Placed, tokens_from, begins_word, is_blank, in_front, mark}
 
 pub no_comment : (b : ℕ) → is_name_byte b ≡ true → (b == 59) ≡ false
@@ -13,10 +14,12 @@ no_comment b h = grind arith
 pub no_blank : (b : ℕ) → is_name_byte b ≡ true → is_blank b ≡ false
 no_blank b h = grind arith
 
-first_named : (b : ℕ) (run : List ℕ) → IsTrue (list_all is_name_byte (b ∷ run)) → is_name_byte b ≡ true
+first_named : (b : ℕ) (run : List ℕ) → IsTrue (list_all is_name_byte (b ∷ run))
+    → is_name_byte b ≡ true
 first_named b run all = grind arith
 
-more_named : (b : ℕ) (run : List ℕ) → IsTrue (list_all is_name_byte (b ∷ run)) → IsTrue (list_all is_name_byte run)
+more_named : (b : ℕ) (run : List ℕ) → IsTrue (list_all is_name_byte (b ∷ run))
+    → IsTrue (list_all is_name_byte run)
 more_named b run all = grind arith
 
 abbrev word_then : List ℕ → ℕ → List ℕ → List Placed
@@ -107,7 +110,8 @@ pub blank_step : (b place : ℕ) (rest : List ℕ) → is_blank b ≡ true
     → tokens_from false place (b ∷ rest) ≡ tokens_from false (place + 1) rest
 blank_step b place rest h =
     passed (tokens_from true (place + 1) rest) (tokens_from false (place + 1) rest)
-    (cond (is_name_byte b && begins_word rest) (in_front b place (tokens_from false (place + 1) rest))
+    (cond (is_name_byte b && begins_word rest)
+    (in_front b place (tokens_from false (place + 1) rest))
     (record { token = cond (is_name_byte b) (Word (b ∷ [])) (mark b); place = place }
     ∷ tokens_from false (place + 1) rest)) (b == 59) (is_blank b) (uncommented b h) h
 

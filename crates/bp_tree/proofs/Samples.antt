@@ -1,5 +1,6 @@
 -- Each symbol has something that is it.
-use Rattle.std.proofs.Common.{◌≡◌, ◌≤◌, ◌<◌, ℕ, zero, suc, List, [], ◌∷◌, refl, codes, inl, inr, arith, ◌⊎◌}
+use Rattle.std.proofs.Common.{◌≡◌, ◌≤◌, ◌<◌, ℕ, zero, suc, List, [], ◌∷◌, refl, codes, inl, inr}
+use Rattle.std.proofs.Common.{arith, ◌⊎◌}
 use Rattle.std.proofs.lemmas.List.Elements.{All-nil, All-cons}
 use Rattle.std.specs.Char.{digit_value}
 use Rattle.omos_base.specs.SymNames.{IsNameByte, IsSymName}
@@ -13,20 +14,40 @@ use Rattle.bp_tree.specs.Grammar.{IsExpr, IsPathOf, IsOpened, Applies}
 use Rattle.bp_tree.specs.TextFaults.{IsNumberWord}
 
 pub name_a : IsSymName (97 ∷ [])
-name_a = ((omega arith, omega arith), All-cons IsNameByte 97 [] (inl (omega arith, omega arith), (λ h. omega arith), (λ h. omega arith), (λ h. omega arith), λ h. omega arith) (All-nil IsNameByte))
+name_a = (
+  (omega arith, omega arith),
+  All-cons IsNameByte 97 [] (
+    inl (omega arith, omega arith),
+    (λ h. omega arith),
+    (λ h. omega arith),
+    (λ h. omega arith),
+    λ h. omega arith,
+  ) (All-nil IsNameByte),
+)
 
 part_a : IsPart (97 ∷ [])
-part_a = (omega arith, omega arith, All-cons IsPartByte 97 [] (inl (inr (omega arith, omega arith))) (All-nil IsPartByte))
+part_a = (
+  omega arith,
+  omega arith,
+  All-cons IsPartByte 97 [] (inl (inr (omega arith, omega arith)))
+      (All-nil IsPartByte),
+)
 
 pub path_a : IsPath (47 ∷ 97 ∷ [])
-path_a = ((97 ∷ []) ∷ [], (omega arith, omega arith, All-cons IsPart (97 ∷ []) [] part_a (All-nil IsPart)), refl, omega arith)
+path_a = (
+  (97 ∷ []) ∷ [],
+  (omega arith, omega arith, All-cons IsPart (97 ∷ []) [] part_a (All-nil IsPart)),
+  refl,
+  omega arith,
+)
 
 pub path_is_expr : (n : ℕ) (ts : List Token) (e : Expr) → IsPathOf ts e → IsExpr n ts e
 unfolding IsExpr
 path_is_expr zero ts e h = h
 path_is_expr (suc n) ts e h = inl h
 
-pub opened_is_expr : (n : ℕ) (ts : List Token) (e : Expr) → IsOpened n (IsExpr n) ts e → IsExpr (suc n) ts e
+pub opened_is_expr : (n : ℕ) (ts : List Token) (e : Expr) → IsOpened n (IsExpr n) ts e
+    → IsExpr (suc n) ts e
 unfolding IsExpr
 opened_is_expr n ts e h = inr h
 
@@ -37,14 +58,20 @@ expr_cases zero ts e h = inl h
 expr_cases (suc n) ts e h = elim h [ inl p ↦ inl p | inr o ↦ inr (n, refl, o) ]
 
 pub expr_a : (n : ℕ) → IsExpr n (Word (47 ∷ 97 ∷ []) ∷ []) (expr.Path (47 ∷ 97 ∷ []))
-expr_a n = path_is_expr n (Word (47 ∷ 97 ∷ []) ∷ []) (expr.Path (47 ∷ 97 ∷ [])) (47 ∷ 97 ∷ [], refl, refl, path_a)
+expr_a n =
+    path_is_expr n (Word (47 ∷ 97 ∷ []) ∷ []) (expr.Path (47 ∷ 97 ∷ []))
+    (47 ∷ 97 ∷ [], refl, refl, path_a)
 
 abbrev pub freeze_a : Expr
 freeze_a = expr.Freeze (97 ∷ []) (expr.Path (47 ∷ 97 ∷ []))
 
 -- `(freeze a /a)`
-pub opened_a : (n : ℕ) → IsOpened n (IsExpr n) (Open ∷ Word (codes "freeze") ∷ Word (97 ∷ []) ∷ Word (47 ∷ 97 ∷ []) ∷ Close ∷ []) freeze_a
-opened_a n = Applies (Freeze (97 ∷ [])) (Word (47 ∷ 97 ∷ []) ∷ []) (expr.Path (47 ∷ 97 ∷ [])) refl refl name_a (omega arith) (expr_a n)
+pub opened_a : (n : ℕ)
+    → IsOpened n (IsExpr n)
+    (Open ∷ Word (codes "freeze") ∷ Word (97 ∷ []) ∷ Word (47 ∷ 97 ∷ []) ∷ Close ∷ []) freeze_a
+opened_a n =
+    Applies (Freeze (97 ∷ [])) (Word (47 ∷ 97 ∷ []) ∷ []) (expr.Path (47 ∷ 97 ∷ [])) refl refl
+    name_a (omega arith) (expr_a n)
 
 -- ---- a word that does not begin with a digit is no number
 

@@ -1,9 +1,10 @@
 -- Symbols read one after the other, and languages that differ elsewhere.
-use Rattle.std.proofs.Common.{◌≡◌, ℕ, List, [], ◌∷◌, ◌++◌, refl, sym, ap, subst, ◌∙◌, ◌⊎◌, inl, inr, append_assoc}
+use Rattle.std.proofs.Common.{◌≡◌, ℕ, List, [], ◌∷◌, ◌++◌, refl, sym, ap, subst, ◌∙◌, ◌⊎◌, inl, inr}
+use Rattle.std.proofs.Common.{append_assoc}
 use Rattle.bp_tree.specs.Tokens.{Token, Close, Word, Placed}
 use Rattle.bp_tree.specs.Texts.{words_of}
 use Rattle.bp_tree.specs.TextFaults.{Language, Begins, CallsForNumber}
-use Rattle.bp_tree.specs.Symbols.{Sym, AreSyms, Completable, Fails, AreRead, WhyStops}
+use Rattle.bp_tree.specs.inside.Symbols.{Sym, AreSyms, Completable, Fails, AreRead, WhyStops}
 use Rattle.bp_tree.specs.declared.stop.Stop.{Stop}
 use Rattle.bp_tree.specs.declared.stop.Stop.TheVariants.{Early, At}
 use Rattle.bp_tree.proofs.Moves.{Onward, calls_moved, fault_moved}
@@ -35,7 +36,8 @@ pub then_read : (a b : List Sym) (V W U : List Token → Type 0) (ts now after :
 then_read a b V W U ts now after r q both = record {
   front = r.front ++ q.front;
   parts = r.parts ∙ ap (λ us. r.front ++ us) q.parts ∙ sym (append_assoc r.front q.front after);
-  value = subst U (sym (words-append r.front q.front)) (both (words_of r.front) (words_of q.front) r.value q.value);
+  value = subst U (sym (words-append r.front q.front))
+      (both (words_of r.front) (words_of q.front) r.value q.value);
   leads = λ ss stop h.
       let P : List Sym → Type 0 = λ l. WhyStops (AreSyms l) ts stop in
       subst P (sym (append_assoc a b ss)) (r.leads (b ++ ss) stop (q.leads ss stop h));
@@ -47,12 +49,14 @@ pub narrowed : (K L : Language) (ts : List Placed) (stop : Stop)
     → ((more : ℕ) (ws : List Token) → K more ws → L more ws)
     → (L 0 (words_of ts) → K 0 (words_of ts))
     → ((front : List Placed) (t : Placed) (behind : List Placed) → ts ≡ front ++ t ∷ behind
-    → (more : ℕ) → Begins L more (words_of front ++ t.token ∷ []) → Begins K more (words_of front ++ t.token ∷ []))
+    → (more : ℕ) → Begins L more (words_of front ++ t.token ∷ [])
+    → Begins K more (words_of front ++ t.token ∷ []))
     → ((front : List Placed) (t : Placed) (behind : List Placed) → ts ≡ front ++ t ∷ behind
     → (CallsForNumber K (words_of front) → CallsForNumber L (words_of front))
     × (CallsForNumber L (words_of front) → CallsForNumber K (words_of front)))
     → WhyStops K ts stop → WhyStops L ts stop
-narrowed K L ts Early incl whole own calls h = ((h.0.0, incl 0 (words_of ts ++ h.0.0) h.0.1), λ l. h.1 (whole l))
+narrowed K L ts Early incl whole own calls h =
+    ((h.0.0, incl 0 (words_of ts ++ h.0.0) h.0.1), λ l. h.1 (whole l))
 narrowed K L ts (At fault) incl whole own calls h =
     let both = calls h.front h.token h.behind h.parts in
     record {
@@ -80,8 +84,10 @@ same K L ts stop there back h =
     narrowed K L ts stop there (back 0 (words_of ts))
     (λ front t behind parts more b. back_again (words_of front) more t.token b)
     (λ front t behind parts.
-    let us = words_of front in
-    (calls_moved K L us us (onward us) (back_again us), calls_moved L K us us (back_again us) (onward us))) h
+    let us = words_of front in (
+      calls_moved K L us us (onward us) (back_again us),
+      calls_moved L K us us (back_again us) (onward us),
+    )) h
 
 -- what L says beyond K begins with a parenthesis
 abbrev pub DiffersAtClose : Language → Language → Type 0
@@ -96,11 +102,15 @@ close_own K L d t after other [] u behind parts more v (inl e) b =
     let n : t ≡ u = cc in (b.0, d more v b.0 (λ h. other (ap (λ p. p.token) n ∙ sym e ∙ h)) b.1)
 close_own K L d t after other [] u behind parts more v (inr none) b = (b.0, d more v b.0 none b.1)
 close_own K L d t after other (f ∷ fs) u behind parts more v is b =
-    let n : t ≡ f = cc in
-    (b.0, d more f.token ((words_of fs ++ v ∷ []) ++ b.0) (λ h. other (ap (λ p. p.token) n ∙ h)) b.1)
+    let n : t ≡ f = cc in (
+      b.0,
+      d more f.token ((words_of fs ++ v ∷ []) ++ b.0) (λ h. other (ap (λ p. p.token) n ∙ h))
+          b.1,
+    )
 
 -- and no parenthesis stands here
-pub unless_closed : (K L : Language) (ts : List Placed) (t : Placed) (after : List Placed) (stop : Stop)
+pub unless_closed : (K L : Language) (ts : List Placed) (t : Placed) (after : List Placed)
+    (stop : Stop)
     → ts ≡ t ∷ after → (t.token ≡ Close → ⊥)
     → ((more : ℕ) (ws : List Token) → K more ws → L more ws) → DiffersAtClose K L
     → WhyStops K ts stop → WhyStops L ts stop
@@ -114,10 +124,15 @@ unless_closed K L ts t after stop e other incl d h =
     (λ front u behind parts. (
       (λ c. (
         (c.0.0, (c.0.1.0, incl 0 ((words_of front ++ Word c.0.0 ∷ []) ++ c.0.1.0) c.0.1.1)),
-        λ word b. c.1 word (close_own K L d t after other front u behind parts 0 (Word word) (inr (λ h. cc)) b),
+        λ word b. c.1 word
+            (close_own K L d t after other front u behind parts 0 (Word word) (inr (λ h. cc)) b),
       )),
       λ c. (
-        (c.0.0, close_own K L d t after other front u behind parts 0 (Word c.0.0) (inr (λ h. cc)) c.0.1),
+        (
+          c.0.0,
+          close_own K L d t after other front u behind parts 0 (Word c.0.0) (inr (λ h. cc))
+              c.0.1,
+        ),
         λ word b. c.1 word (b.0, incl 0 ((words_of front ++ Word word ∷ []) ++ b.0) b.1),
       ),
     ))

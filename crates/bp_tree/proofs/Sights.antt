@@ -1,7 +1,7 @@
 -- The tokens of the code, and what they are seen as.
 use Rattle.std.proofs.Common.{◌≡◌, ℕ, List, sym, ap, ◌∙◌, IsTrue, true, false}
 use Rattle.bp_tree.specs.Tokens.{Open, Close, Word, Barred}
-use Rattle.bp_tree.specs.Pending.{seen}
+use Rattle.bp_tree.specs.inside.Pending.{seen}
 use Rattle.bp_tree.specs.declared.token.Token as kind
 use Rattle.bp_tree.specs.declared.token.Token.TheVariants as code
 
@@ -37,7 +37,8 @@ not_true h = let k : false ≡ true = h in cc
 pub not_open : (t : kind.Token) (w : _) → t ≡ code.Word w → seen t ≡ Open → ⊥
 not_open t w e h = let k : Open ≡ Word w.now = sym h ∙ ap seen e in cc
 
-pub allowed : (t : kind.Token) (byte : ℕ) → seen t ≡ Barred byte → ((b : ℕ) → t ≡ code.Barred b → ⊥) → ⊥
+pub allowed : (t : kind.Token) (byte : ℕ) → seen t ≡ Barred byte → ((b : ℕ) → t ≡ code.Barred b → ⊥)
+    → ⊥
 allowed code.Open byte h other = cc
 allowed code.Close byte h other = cc
 allowed (code.Word w) byte h other = cc

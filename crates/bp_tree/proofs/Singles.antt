@@ -5,10 +5,11 @@ use Rattle.omos_base.specs.declared.sym_name.NameFault.{NameFault}
 use Rattle.omos_base.specs.declared.sym_name.NameFault.TheVariants.{Length, Byte}
 use Rattle.omos_model.specs.declared.refusal.BpFault.TheVariants.{Shape}
 use Rattle.bp_tree.specs.Tokens.{Token, Open, Close, Word, Placed}
-use Rattle.bp_tree.specs.Symbols.{It, AName, AreSyms, Fails, AreRead}
+use Rattle.bp_tree.specs.inside.Symbols.{It, AName, AreSyms, Fails, AreRead}
 use Rattle.bp_tree.specs.declared.stop.Stop.TheVariants.{Early, At}
 use Rattle.bp_tree.proofs.Samples.{name_a, no_number_a, no_number_image}
-use Rattle.bp_tree.proofs.Failing.{Sample, IsNeverEmpty, IsUncalled, fails_early, fails_shape, leads_step}
+use Rattle.bp_tree.proofs.Failing.{Sample, IsNeverEmpty, IsUncalled, fails_early, fails_shape}
+use Rattle.bp_tree.proofs.Failing.{leads_step}
 
 -- ---- a token
 
@@ -37,7 +38,8 @@ pub image_uncalled : IsUncalled (It (Word (codes "image")))
 image_uncalled = inl (codes "image", [], refl, no_number_image)
 
 -- what follows a front of one token
-behind_one : (t w : Token) (ws front rest : List Token) → t ∷ ws ≡ front ++ rest → front ≡ w ∷ [] → rest ≡ ws
+behind_one : (t w : Token) (ws front rest : List Token) → t ∷ ws ≡ front ++ rest → front ≡ w ∷ []
+    → rest ≡ ws
 behind_one t w ws front rest e is =
     let e' : t ∷ ws ≡ w ∷ rest = e ∙ ap (λ us. us ++ rest) is in cc
 
@@ -62,12 +64,15 @@ not_name bytes Length h is = h is.0
 not_name bytes (Byte place) h is = h.1.2 (is.1 place 0 h.1.0)
 
 pub name_early : (ts : List Placed) → ts ≡ [] → Fails (AName ∷ []) ts Early
-name_early ts e = fails_early AName ts (λ more. (Word (97 ∷ []) ∷ [], (97 ∷ [], refl, name_a))) name_full e
+name_early ts e =
+    fails_early AName ts (λ more. (Word (97 ∷ []) ∷ [], (97 ∷ [], refl, name_a))) name_full e
 
 pub name_shape : (ts : List Placed) (t : Placed) (after : List Placed) → ts ≡ t ∷ after
-    → ((n : List ℕ) → t.token ≡ Word n → IsSymName n → ⊥) → Fails (AName ∷ []) ts (At (Shape t.place))
+    → ((n : List ℕ) → t.token ≡ Word n → IsSymName n → ⊥)
+    → Fails (AName ∷ []) ts (At (Shape t.place))
 name_shape ts t after e other =
-    fails_shape AName ts t after (λ more. (Word (97 ∷ []) ∷ [], (97 ∷ [], refl, name_a))) name_full e
+    fails_shape AName ts t after (λ more. (Word (97 ∷ []) ∷ [], (97 ∷ [], refl, name_a))) name_full
+    e
     (λ tail is. let same : t.token ≡ Word is.0 = cc in other is.0 same is.2)
     (λ opens more tail is. let same : Open ≡ Word is.0 = cc in cc)
     (inl (97 ∷ [], [], (97 ∷ [], refl, name_a), no_number_a))
@@ -81,5 +86,6 @@ name_read n ts t after e same is = record {
   value = (ap (λ u. u ∷ []) same, is);
   leads = leads_step (AName ∷ []) [] t ts after e
       (λ ss more ws a. (Word n ∷ [], ws, ap (λ u. u ∷ ws) same, (n, refl, is), a))
-      (λ ss more ws a. subst (AreSyms ss more) (behind_one t.token (Word a.3.0) ws a.0 a.1 a.2 a.3.1) a.4);
+      (λ ss more ws a. subst (AreSyms ss more)
+      (behind_one t.token (Word a.3.0) ws a.0 a.1 a.2 a.3.1) a.4);
 }

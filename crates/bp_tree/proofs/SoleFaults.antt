@@ -92,7 +92,8 @@ one_reason L ts t place (Shape p) (Shape q) h k = ap Shape (h.0 ∙ sym k.0)
 
 -- ---- both
 
-one_stop : (L : Language) (ts : List Placed) (f g : BpFault) → StopsAtToken L ts f → StopsAtToken L ts g
+one_stop : (L : Language) (ts : List Placed) (f g : BpFault) → StopsAtToken L ts f
+    → StopsAtToken L ts g
     → f ≡ g
 one_stop L ts f g s r =
     elim (in_order s.front r.front s.token r.token s.behind r.behind (sym s.parts ∙ r.parts)) [

@@ -4,7 +4,7 @@ use Rattle.std.proofs.lemmas.List.Elements.{All-nil}
 use Rattle.omos_base.specs.SymNames.{IsSymName}
 use Rattle.omos_model.specs.declared.expr.Expr.TheVariants as expr
 use Rattle.bp_tree.specs.Tokens.{Token, Close, Word}
-use Rattle.bp_tree.specs.Symbols.{It, AName, Names, AnExpr, Exprs}
+use Rattle.bp_tree.specs.inside.Symbols.{It, AName, Names, AnExpr, Exprs}
 use Rattle.bp_tree.proofs.Samples.{name_a, expr_a}
 use Rattle.bp_tree.proofs.Failing.{completes}
 use Rattle.bp_tree.proofs.Sequences.{IsSolid}
@@ -19,7 +19,9 @@ pub solid_names : IsSolid (Names ∷ [])
 solid_names ss c = completes Names ss (λ more. (Close ∷ [], ([], refl, All-nil IsSymName))) c
 
 pub solid_expr : (room : ℕ) → IsSolid (AnExpr room ∷ [])
-solid_expr room ss c = completes (AnExpr room) ss (λ more. (Word (47 ∷ 97 ∷ []) ∷ [], (expr.Path (47 ∷ 97 ∷ []), expr_a _))) c
+solid_expr room ss c =
+    completes (AnExpr room) ss
+    (λ more. (Word (47 ∷ 97 ∷ []) ∷ [], (expr.Path (47 ∷ 97 ∷ []), expr_a _))) c
 
 pub solid_exprs : (room : ℕ) → IsSolid (Exprs room ∷ [])
 solid_exprs room ss c = completes (Exprs room) ss (λ more. (Close ∷ [], ([], [], refl, refl))) c

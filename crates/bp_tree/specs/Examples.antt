@@ -20,9 +20,11 @@ pub record TokensWork : Type 0 where
 pub record CanonicalWorks : Type 0 where
   pub merged : canonical_text (image_of (Named (codes "_start")) 4194304 1073741824
       (Merge (Path (codes "/a") ∷ Path (codes "/b") ∷ []))) ≡ codes "(image (merge /a /b))"
-  pub ranged : canonical_text (image_of (Named (codes "_start")) 65536 1073741824 (Path (codes "/a")))
+  pub ranged : canonical_text
+      (image_of (Named (codes "_start")) 65536 1073741824 (Path (codes "/a")))
       ≡ codes "(image (range 0x10000 0x40000000) /a)"
-  pub usual : canonical_text (image_of (Named (codes "_start")) 4194304 1073741824 (Path (codes "/a")))
+  pub usual : canonical_text
+      (image_of (Named (codes "_start")) 4194304 1073741824 (Path (codes "/a")))
       ≡ codes "(image /a)"
   pub shown : canonical_text (image_of (Named (codes "_start")) 4194304 1073741824
       (Show [] (Path (codes "/a")))) ≡ codes "(image (show () /a))"

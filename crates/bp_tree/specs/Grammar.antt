@@ -63,7 +63,8 @@ abbrev pub IsPathOf : List Token → Expr → Type 0
 IsPathOf ts e = (p : Name) × (ts ≡ Word p ∷ []) × (e ≡ expr.Path p) × IsPath p
 
 -- an expression in parentheses, in which others may nest so deep and are as P says
-pub data IsOpened (room : ℕ) (P : List Token → Expr → Type 0) (ts : List Token) (e : Expr) : Type 0 where
+pub data IsOpened (room : ℕ) (P : List Token → Expr → Type 0) (ts : List Token)
+    (e : Expr) : Type 0 where
   Merges : (inner : List Token) (xs : List Expr)
       → ts ≡ Open ∷ Word (codes "merge") ∷ (inner ++ Close ∷ []) → e ≡ expr.Merge xs
       → 2 ≤ length xs → AreExprs P inner xs → IsOpened room P ts e

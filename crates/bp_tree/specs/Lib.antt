@@ -5,8 +5,6 @@ pub mod Texts
 pub mod TextFaults
 pub mod Canonical
 pub mod Named
-pub mod Pending
-pub mod Symbols
-pub mod Header
 pub mod Examples
 pub mod Laws
+pub mod inside

@@ -2,7 +2,8 @@
 use Rattle.std.specs.Prelude.{◌≡◌, ◌<◌, ◌≤◌, ◌+◌, ℕ, ◌⊎◌, List, [], ◌∷◌, ◌++◌, All, length}
 use Rattle.omos_model.specs.ImageParts.{ImageParts}
 use Rattle.omos_model.specs.declared.refusal.BpFault.{BpFault}
-use Rattle.omos_model.specs.declared.refusal.BpFault.TheVariants.{Long, Byte, Shape, Deep, Number, Range}
+use Rattle.omos_model.specs.declared.refusal.BpFault.TheVariants.{Long, Byte, Shape, Deep, Number}
+use Rattle.omos_model.specs.declared.refusal.BpFault.TheVariants.{Range}
 use Rattle.bp_tree.specs.Tokens.{Token, Open, Word, Barred, Placed, tokens_of}
 use Rattle.bp_tree.specs.Numerals.{IsNumeralOf}
 use Rattle.bp_tree.specs.Grammar.{IsImageOf}
@@ -77,7 +78,8 @@ StandsInTexts t = (byte : ℕ) → t.token ≡ Barred byte → ⊥
 abbrev pub IsBarredAt : List Placed → ℕ → Type 0
 IsBarredAt ts place =
     (front : List Placed) × (byte : ℕ) × (behind : List Placed)
-    × (ts ≡ front ++ record { token = Barred byte; place = place } ∷ behind) × All StandsInTexts front
+    × (ts ≡ front ++ record { token = Barred byte; place = place } ∷ behind)
+    × All StandsInTexts front
 
 -- a fault of the tokens, none of which is barred
 abbrev pub IsShaped : List ℕ → BpFault → Type 0

@@ -3,9 +3,9 @@
 ghost use Rattle.std.specs.Prelude.{◌≡◌, ◌∷◌, [], IsTrue};
 ghost use Rattle.omos_base.specs.Fault.{MatchFault};
 ghost use Rattle.omos_model.specs.ImageParts.{is_range, top};
-ghost use Rattle.bp_tree.specs.Header.{AreBounds, IsUpper};
-ghost use Rattle.bp_tree.specs.Pending.{pending};
-ghost use Rattle.bp_tree.specs.Symbols.{Low, High, AreRead, Fails};
+ghost use Rattle.bp_tree.specs.inside.Header.{AreBounds, IsUpper};
+ghost use Rattle.bp_tree.specs.inside.Pending.{pending};
+ghost use Rattle.bp_tree.specs.inside.Symbols.{Low, High, AreRead, Fails};
 
 use crate::leaves::close;
 use crate::numbers::number;

@@ -1,7 +1,7 @@
 //! The forms of an expression in parentheses.
 
 ghost use Rattle.std.specs.Prelude.{◌≡◌, MatchOption};
-ghost use Rattle.bp_tree.specs.Symbols.{keyword, kind_nesting};
+ghost use Rattle.bp_tree.specs.inside.Symbols.{keyword, kind_nesting};
 
 /// An operator on one expression.
 #[derive(Clone, Copy)]

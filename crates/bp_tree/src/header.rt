@@ -4,10 +4,10 @@ ghost use Rattle.std.specs.Prelude.{◌≡◌, ◌∷◌, [], MatchOption, IsTru
 ghost use Rattle.omos_base.specs.Fault.{MatchFault};
 ghost use Rattle.omos_base.specs.SymNames.{IsSymName};
 ghost use Rattle.bp_tree.specs.Grammar.{IsStart, IsRange};
-ghost use Rattle.bp_tree.specs.Header.{IsOpening, IsHeaderPart, body_syms, range_syms};
-ghost use Rattle.bp_tree.specs.Pending.{pending};
-ghost use Rattle.bp_tree.specs.Symbols.{It, AName, AStart, ARange, AreSyms, AreRead, Fails};
-ghost use Rattle.bp_tree.specs.Symbols.{WhyStops};
+ghost use Rattle.bp_tree.specs.inside.Header.{IsOpening, IsHeaderPart, body_syms, range_syms};
+ghost use Rattle.bp_tree.specs.inside.Pending.{pending};
+ghost use Rattle.bp_tree.specs.inside.Symbols.{It, AName, AStart, ARange, AreSyms, AreRead, Fails};
+ghost use Rattle.bp_tree.specs.inside.Symbols.{WhyStops};
 ghost use Rattle.bp_tree.specs.Tokens as token;
 
 use crate::bounds::bounds;

@@ -4,8 +4,8 @@ ghost use Rattle.std.specs.Prelude.{◌≡◌, ◌∷◌, [], map, ◌++◌, All
 ghost use Rattle.omos_base.specs.Fault.{MatchFault};
 ghost use Rattle.omos_base.specs.SymNames.{IsSymName};
 ghost use Rattle.bp_tree.specs.Tokens as token;
-ghost use Rattle.bp_tree.specs.Pending.{pending};
-ghost use Rattle.bp_tree.specs.Symbols.{It, AName, Names, AreRead, Fails};
+ghost use Rattle.bp_tree.specs.inside.Pending.{pending};
+ghost use Rattle.bp_tree.specs.inside.Symbols.{It, AName, Names, AreRead, Fails};
 
 use crate::stop::Stop;
 use crate::token::{Reader, Token};

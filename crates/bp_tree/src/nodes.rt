@@ -7,10 +7,10 @@ ghost use Rattle.omos_base.specs.Paths.{IsPath};
 ghost use Rattle.omos_base.specs.SymNames.{IsSymName};
 ghost use Rattle.bp_tree.specs.Tokens as token;
 ghost use Rattle.bp_tree.specs.Grammar.{IsExpr, IsOpened};
-ghost use Rattle.bp_tree.specs.Pending.{pending};
-ghost use Rattle.bp_tree.specs.Symbols.{It, AName, Names, AnExpr, Inside, Exprs, AreRead, Fails};
-ghost use Rattle.bp_tree.specs.Symbols.{IsOperator, arguments, behind, keyword, kind_nesting};
-ghost use Rattle.bp_tree.specs.Symbols.{AreOperands, HasOneMore};
+ghost use Rattle.bp_tree.specs.inside.Pending.{pending};
+ghost use Rattle.bp_tree.specs.inside.Symbols.{It, AName, Names, AnExpr, Inside, Exprs, AreRead, Fails};
+ghost use Rattle.bp_tree.specs.inside.Symbols.{IsOperator, arguments, behind, keyword, kind_nesting};
+ghost use Rattle.bp_tree.specs.inside.Symbols.{AreOperands, HasOneMore};
 
 use crate::form::{Applied, Form};
 use crate::leaves::{close, name, names, open};

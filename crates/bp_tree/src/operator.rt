@@ -2,7 +2,7 @@
 
 ghost use Rattle.std.specs.Prelude.{◌≡◌, IfOk};
 ghost use Rattle.bp_tree.specs.Grammar.{applied};
-ghost use Rattle.bp_tree.specs.Symbols.{op_meant};
+ghost use Rattle.bp_tree.specs.inside.Symbols.{op_meant};
 
 use omos_base::{NoMemory, SymName};
 use omos_model::Expr;

@@ -6,9 +6,9 @@
 ghost use Rattle.std.specs.Prelude.{◌≡◌, ◌≤◌, [], All, length, MatchOption};
 ghost use Rattle.omos_base.specs.Fault.{MatchFault};
 ghost use Rattle.bp_tree.specs.Grammar.{IsImageOf};
-ghost use Rattle.bp_tree.specs.Header.{HasHead, image_syms};
-ghost use Rattle.bp_tree.specs.Pending.{pending};
-ghost use Rattle.bp_tree.specs.Symbols.{AreSyms, WhyStops};
+ghost use Rattle.bp_tree.specs.inside.Header.{HasHead, image_syms};
+ghost use Rattle.bp_tree.specs.inside.Pending.{pending};
+ghost use Rattle.bp_tree.specs.inside.Symbols.{AreSyms, WhyStops};
 ghost use Rattle.bp_tree.specs.TextFaults.{StandsInTexts, IsBarredAt, IsTextFault, images};
 ghost use Rattle.bp_tree.specs.Texts.{IsText, words_of, max_room};
 

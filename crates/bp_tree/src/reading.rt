@@ -5,7 +5,7 @@ ghost use Rattle.std.specs.List.{list_all};
 ghost use Rattle.omos_model.specs.Names.{is_name_byte};
 ghost use Rattle.bp_tree.specs.Tokens.{begins_word};
 ghost use Rattle.bp_tree.specs.Tokens as spec;
-ghost use Rattle.bp_tree.specs.Pending.{pending, begins_comment, AtByte, AtToken, IsFirstWord, IsNextToken};
+ghost use Rattle.bp_tree.specs.inside.Pending.{pending, begins_comment, AtByte, AtToken, IsFirstWord, IsNextToken};
 
 use crate::token::{Next, Reader, Token};
 use omos_base::is_name_byte;

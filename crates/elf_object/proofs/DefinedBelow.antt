@@ -7,7 +7,7 @@ use Rattle.omos_model.specs.Names.{Name, same_name}
 use Rattle.omos_model.specs.Numbers.{numbers_from}
 use Rattle.omos_model.specs.ElfFields.{name_of}
 use Rattle.omos_model.specs.ElfFaults.{is_again, is_export}
-use Rattle.elf_object.specs.Seen.{is_defined_below}
+use Rattle.elf_object.specs.inside.Seen.{is_defined_below}
 
 pub numbers_push : (s c : ℕ) → numbers_from s (suc c) ≡ numbers_from s c ++ (s + c) ∷ []
 numbers_push s zero = ap (λ (n : ℕ). n ∷ []) (omega arith)

@@ -27,7 +27,8 @@ second_false false b c d h = refl
 
 -- a table of all sections says that none is kept behind the last
 pub all_kept : (file : List ℕ) (kept : List Bool) → length kept ≡ e_shnum file
-    → ((k : ℕ) → k < e_shnum file → get_or kept k false ≡ is_kept file k) → AreKeptSections file kept
+    → ((k : ℕ) → k < e_shnum file → get_or kept k false ≡ is_kept file k)
+    → AreKeptSections file kept
 all_kept file kept all each = record { all = all; each = λ i. go i (nat_lt i (e_shnum file)) refl }
   where
     go : (i : ℕ) (b : Bool) → nat_lt i (e_shnum file) ≡ b → get_or kept i false ≡ is_kept file i
@@ -37,6 +38,7 @@ all_kept file kept all each = record { all = all; each = λ i. go i (nat_lt i (e
         get_or_past kept i false (omega (arith, all, past))
         ∙ sym (second_false (nat_lt 0 i) (nat_lt i (e_shnum file)) _ _ e)
 
-pub kept_past : (file : List ℕ) (kept : List Bool) (i : ℕ) → AreKeptSections file kept → length kept ≤ i
+pub kept_past : (file : List ℕ) (kept : List Bool) (i : ℕ) → AreKeptSections file kept
+    → length kept ≤ i
     → is_kept file i ≡ false
 kept_past file kept i are past = sym (are.each i) ∙ get_or_past kept i false past

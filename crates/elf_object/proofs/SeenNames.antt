@@ -17,8 +17,9 @@ use Rattle.std.specs.Cmp.{both_tied}
 use Rattle.std.specs.Ordering.{nat_cmp}
 use Rattle.std.proofs.lemmas.Cmp.{nat_cmp_total, tied_itself}
 use Rattle.omos_model.proofs.Names.{is_eq-name_cmp, same_name-swap, same_name-true}
-use Rattle.elf_object.specs.Seen.{HaveSeen, digest, symbol_in_place, is_defined_below, is_held_name}
-use Rattle.elf_object.specs.Seen.{name_order}
+use Rattle.elf_object.specs.inside.Seen.{HaveSeen, digest, symbol_in_place, is_defined_below}
+use Rattle.elf_object.specs.inside.Seen.{is_held_name}
+use Rattle.elf_object.specs.inside.Seen.{name_order}
 use Rattle.elf_object.proofs.DefinedBelow.{again_as, below_export, below_other}
 
 abbrev place : List ℕ → Name → ℕ
@@ -51,7 +52,8 @@ free_held file places n free =
     ap (λ (j : ℕ). not (j == 0) && same_name n (name_of file j)) free
 
 free_below : (file : List ℕ) (k : ℕ) (places : List ℕ) (others : Name → Bool) (n : Name)
-    → HaveSeen file k places others → symbol_in_place places n ≡ 0 → is_defined_below file k n ≡ false
+    → HaveSeen file k places others → symbol_in_place places n ≡ 0
+    → is_defined_below file k n ≡ false
 free_below file k places others n seen free =
     seen.defined n ∙ ap (λ b. b || others n) (free_held file places n free) ∙ seen.taken n free
 
@@ -229,7 +231,8 @@ module _ (file : List ℕ) (k : ℕ) (places : List ℕ) (others : Name → Bool
 
   more_taken : (more : Name → Bool) → (there ≡ 0 → ⊥)
       → ((n : Name) → more n ≡ cond (same_name n name) true (others n))
-      → (n : Name) → symbol_in_place places n ≡ 0 → (b : Bool) → same_name n name ≡ b → more n ≡ false
+      → (n : Name) → symbol_in_place places n ≡ 0 → (b : Bool) → same_name n name ≡ b
+      → more n ≡ false
   more_taken more some e n free true is =
       absurd (some (ap (symbol_in_place places) (sym (same_name-true n name is)) ∙ free))
   more_taken more some e n free false is =

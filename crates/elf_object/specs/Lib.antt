@@ -1,4 +1,3 @@
 pub mod Stages
-pub mod Checks
 pub mod TablesOf
-pub mod Seen
+pub mod inside

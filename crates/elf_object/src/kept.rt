@@ -8,7 +8,7 @@ ghost use Rattle.omos_model.specs.ElfFaults.{is_unsupported, is_wrong_section, l
 ghost use Rattle.omos_model.specs.ElfFaults.{loaded_types};
 ghost use Rattle.omos_model.specs.FragmentParts.{is_alignment};
 ghost use Rattle.elf_object.specs.Stages.{HasHeaders};
-ghost use Rattle.elf_object.specs.Checks.{fails};
+ghost use Rattle.elf_object.specs.inside.Checks.{fails};
 ghost use Rattle.elf_object.specs.TablesOf.{AreKeptSections};
 
 use crate::reads::{count_of_sections, ends_within, section};

@@ -10,7 +10,7 @@ ghost use Rattle.std.specs.Cmp.Rules.{comparing};
 ghost use Rattle.std.specs.Ordering.{as_partial_cmp, eq_by_cmp};
 ghost use Rattle.std.proofs.Common.{rules};
 ghost use Rattle.omos_model.specs.ElfFaults.{is_again, is_export};
-ghost use Rattle.elf_object.specs.Seen.{HaveSeen, digest, name_order};
+ghost use Rattle.elf_object.specs.inside.Seen.{HaveSeen, digest, name_order};
 ghost use Rattle.elf_object.specs.TablesOf.{AreSymbols};
 
 use crate::symbols::name;
@@ -35,7 +35,7 @@ impl<'a> Model for ExportName<'a> {
 
     ghost Value = { List ℕ };
 
-    ghost use Rattle.elf_object.specs.Seen.{digest};
+    ghost use Rattle.elf_object.specs.inside.Seen.{digest};
 
     ghost view = { λ name. name.bytes.now };
 
@@ -84,7 +84,7 @@ impl<'a> Ord for ExportName<'a> {
 }
 
 /// The number that stands for a name.
-#[tactic(auto, unfolding(crate::specs::Seen::digest))]
+#[tactic(auto, unfolding(crate::specs::inside::Seen::digest))]
 fn digest(name: &[u8]) -> u64
     ensures { result ≡ digest name.now }
 {

@@ -1,5 +1,6 @@
 -- Runs of numbers as they grow by one.
-use Rattle.std.proofs.Common.{◌≡◌, ℕ, zero, suc, ◌+◌, ◌-◌, ◌≤◌, Bool, true, false, List, [], ◌∷◌, ◌++◌, Option, None}
+use Rattle.std.proofs.Common.{◌≡◌, ℕ, zero, suc, ◌+◌, ◌-◌, ◌≤◌, Bool, true, false, List, [], ◌∷◌}
+use Rattle.std.proofs.Common.{◌++◌, Option, None}
 use Rattle.std.proofs.Common.{refl, ap, ◌∙◌, cond, length, map, arith}
 use Rattle.std.specs.Prelude.{filter}
 use Rattle.std.proofs.lemmas.List.{append-nil, map-append}
@@ -29,7 +30,8 @@ pub up_to : (i : ℕ) → 1 ≤ i → numbers_from 1 (i + 1 - 1) ≡ numbers_fro
 up_to i h =
     let e : i + 1 - 1 ≡ i - 1 + 1 = omega arith in
     let f : 1 + (i - 1) ≡ i = omega arith in
-    ap (numbers_from 1) e ∙ numbers_from-last 1 (i - 1) ∙ ap (λ n. numbers_from 1 (i - 1) ++ n ∷ []) f
+    ap (numbers_from 1) e ∙ numbers_from-last 1 (i - 1)
+    ∙ ap (λ n. numbers_from 1 (i - 1) ++ n ∷ []) f
 
 module _ {X : Type 0} (p : ℕ → Bool) (f : ℕ → X) where
   -- a number that passes is added to those that do
@@ -38,7 +40,8 @@ module _ {X : Type 0} (p : ℕ → Bool) (f : ℕ → X) where
       ≡ map f (filter p (numbers_from 1 (i - 1))) ++ f i ∷ []
   pick_more i h e =
       ap (λ ns. map f (filter p ns)) (up_to i h)
-      ∙ ap (map f) (filter-append p (numbers_from 1 (i - 1)) (i ∷ []) ∙ ap (λ b. filter p (numbers_from 1 (i - 1)) ++ cond b (i ∷ []) []) e)
+      ∙ ap (map f) (filter-append p (numbers_from 1 (i - 1)) (i ∷ [])
+      ∙ ap (λ b. filter p (numbers_from 1 (i - 1)) ++ cond b (i ∷ []) []) e)
       ∙ map-append f (filter p (numbers_from 1 (i - 1))) (i ∷ [])
 
   -- and one that doesn't leaves them
@@ -46,14 +49,16 @@ module _ {X : Type 0} (p : ℕ → Bool) (f : ℕ → X) where
       → map f (filter p (numbers_from 1 (i + 1 - 1))) ≡ map f (filter p (numbers_from 1 (i - 1)))
   pick_none i h e =
       ap (λ ns. map f (filter p ns)) (up_to i h)
-      ∙ ap (map f) (filter-append p (numbers_from 1 (i - 1)) (i ∷ []) ∙ ap (λ b. filter p (numbers_from 1 (i - 1)) ++ cond b (i ∷ []) []) e)
+      ∙ ap (map f) (filter-append p (numbers_from 1 (i - 1)) (i ∷ [])
+      ∙ ap (λ b. filter p (numbers_from 1 (i - 1)) ++ cond b (i ∷ []) []) e)
       ∙ ap (map f) (append-nil (filter p (numbers_from 1 (i - 1))))
 
 -- ---- counts
 
 pub count_more : (p : ℕ → Bool) (i : ℕ) → 1 ≤ i
     → count_by p (numbers_from 1 (i + 1 - 1)) ≡ count_by p (numbers_from 1 (i - 1)) + cond (p i) 1 0
-count_more p i h = ap (count_by p) (up_to i h) ∙ sum_by_push (λ n. cond (p n) 1 0) (numbers_from 1 (i - 1)) i
+count_more p i h = ap (count_by p) (up_to i h)
+    ∙ sum_by_push (λ n. cond (p n) 1 0) (numbers_from 1 (i - 1)) i
 
 pub count_bound : (p : ℕ → Bool) (c : ℕ) → count_by p (numbers_from 1 c) ≤ c
 count_bound p c = omega (arith, count_by-le-length p (numbers_from 1 c), length-numbers_from 1 c)
@@ -72,7 +77,11 @@ common_piece_more file k h =
 -- fewer than 4,096 sections are kept
 pub few_kept : (file : List ℕ) → object_fault file ≡ None → common_piece file 1 ≤ 4096
 few_kept file right =
-    omega (arith, length_filtered (is_kept file) 1 (e_shnum file - 1), (right_file file right).few_sections)
+    omega (
+      arith,
+      length_filtered (is_kept file) 1 (e_shnum file - 1),
+      (right_file file right).few_sections,
+    )
 
 -- ---- fixups
 
@@ -83,7 +92,8 @@ module _ {X : Type 0} (f : ℕ × ℕ → Option X) (i : ℕ) where
   pub made_more : (j : ℕ) → made (j + 1) ≡ made j ++ cons_option (f (i, j)) []
   made_more j =
       let e : 0 + j ≡ j = omega arith in
-      ap (λ ns. filter_map f (map (λ j. (i, j)) ns)) (numbers_from-last 0 j ∙ ap (λ n. numbers_from 0 j ++ n ∷ []) e)
+      ap (λ ns. filter_map f (map (λ j. (i, j)) ns))
+      (numbers_from-last 0 j ∙ ap (λ n. numbers_from 0 j ++ n ∷ []) e)
       ∙ ap (filter_map f) (map-append (λ j. (i, j)) (numbers_from 0 j) (j ∷ []))
       ∙ filter_map-append f (map (λ j. (i, j)) (numbers_from 0 j)) ((i, j) ∷ [])
 
@@ -97,8 +107,11 @@ module _ {X : Type 0} (f : ℕ × ℕ → Option X) (used : ℕ → Bool) (count
   rows_more i h e =
       let before = filter used (numbers_from 1 (i - 1)) in
       ap (λ ns. filter_map f (flat_map row (filter used ns))) (up_to i h)
-      ∙ ap (λ ns. filter_map f (flat_map row ns)) (filter-append used (numbers_from 1 (i - 1)) (i ∷ []) ∙ ap (λ b. before ++ cond b (i ∷ []) []) e)
-      ∙ ap (filter_map f) (flat_map-append row before (i ∷ []) ∙ ap (λ es. flat_map row before ++ es) (append-nil (row i)))
+      ∙ ap (λ ns. filter_map f (flat_map row ns))
+      (filter-append used (numbers_from 1 (i - 1)) (i ∷ [])
+      ∙ ap (λ b. before ++ cond b (i ∷ []) []) e)
+      ∙ ap (filter_map f) (flat_map-append row before (i ∷ [])
+      ∙ ap (λ es. flat_map row before ++ es) (append-nil (row i)))
       ∙ filter_map-append f (flat_map row before) (row i)
 
   pub rows_none : (i : ℕ) → 1 ≤ i → used i ≡ false
@@ -107,4 +120,6 @@ module _ {X : Type 0} (f : ℕ × ℕ → Option X) (used : ℕ → Bool) (count
   rows_none i h e =
       let before = filter used (numbers_from 1 (i - 1)) in
       ap (λ ns. filter_map f (flat_map row (filter used ns))) (up_to i h)
-      ∙ ap (λ ns. filter_map f (flat_map row ns)) (filter-append used (numbers_from 1 (i - 1)) (i ∷ []) ∙ ap (λ b. before ++ cond b (i ∷ []) []) e ∙ append-nil before)
+      ∙ ap (λ ns. filter_map f (flat_map row ns))
+      (filter-append used (numbers_from 1 (i - 1)) (i ∷ [])
+      ∙ ap (λ b. before ++ cond b (i ∷ []) []) e ∙ append-nil before)

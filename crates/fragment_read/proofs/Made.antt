@@ -10,7 +10,7 @@ use Rattle.omos_model.specs.ElfFaults.{kind_of}
 use Rattle.omos_model.specs.FragmentOf.{aim_of, fixup_of, section_piece}
 use Rattle.omos_model.specs.declared.fragment.Aim.{Aim}
 use Rattle.omos_model.specs.declared.fragment.Kind.{Kind}
-use Rattle.fragment_read.specs.Numbered.{fixup_with}
+use Rattle.fragment_read.specs.inside.Numbered.{fixup_with}
 
 -- an entry as it was read
 pub read_is : (file bytes : List ℕ) (i j at : ℕ) (e : Rela) → e ≡ rela_at bytes (at + 24 * j)

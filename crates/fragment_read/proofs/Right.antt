@@ -1,27 +1,32 @@
 -- What a file without a fault lets its fragment be read by.
-use Rattle.std.proofs.Common.{◌≡◌, ℕ, zero, suc, ◌+◌, ◌-◌, ◌<◌, ◌≤◌, ◌==◌, Bool, true, false, not, ◌&&◌, ◌||◌}
-use Rattle.std.proofs.Common.{List, [], ◌∷◌, Option, Some, None, refl, sym, ap, ◌∙◌, subst, cond, map, arith}
+use Rattle.std.proofs.Common.{◌≡◌, ℕ, zero, suc, ◌+◌, ◌-◌, ◌<◌, ◌≤◌, ◌==◌, Bool, true, false, not}
+use Rattle.std.proofs.Common.{◌&&◌, ◌||◌}
+use Rattle.std.proofs.Common.{List, [], ◌∷◌, Option, Some, None, refl, sym, ap, ◌∙◌, subst, cond}
+use Rattle.std.proofs.Common.{map, arith}
 use Rattle.std.specs.Prelude.{nat_lt, nat_le, filter}
 use Rattle.std.specs.Option.{option_map_or}
 use Rattle.std.specs.List.{flat_map, list_all, list_any}
 use Rattle.std.proofs.lemmas.Bool.{and_parts, or_parts, not-false, not-true, not_from_true}
-use Rattle.std.proofs.lemmas.Bool.{not_from_false, and_from, lt-ltb, true≢false, leb-true, ltb-false, eqb-true, eqb-false, ltb-true}
+use Rattle.std.proofs.lemmas.Bool.{not_from_false, and_from, lt-ltb, true≢false, leb-true}
+use Rattle.std.proofs.lemmas.Bool.{ltb-false, eqb-true, eqb-false, ltb-true}
 use Rattle.std.proofs.lemmas.List.Folds.{list_all-append}
 use Rattle.omos_model.specs.ElfValues.{shn_common}
 use Rattle.omos_model.specs.FragmentParts.{is_alignment, width}
 use Rattle.omos_model.specs.declared.fragment.Kind.{Kind}
-use Rattle.omos_model.specs.ElfFields.{e_shnum, is_section, sh_addralign, sh_size, st_shndx, st_size}
+use Rattle.omos_model.specs.ElfFields.{e_shnum, is_section, sh_addralign, sh_size, st_shndx}
+use Rattle.omos_model.specs.ElfFields.{st_size}
 use Rattle.omos_model.specs.ElfFields.{r_offset, r_sym, r_type, sh_info, sh_type}
 use Rattle.omos_model.specs.ElfFields.{binding, st_value, symbol_count}
 use Rattle.omos_model.specs.Numbers.{numbers_from}
 use Rattle.omos_model.specs.ElfFaults.{entry_count, has_name, has_right_section, is_export, is_kept}
-use Rattle.omos_model.specs.ElfFaults.{is_aim_of, is_in_target, is_local, is_of_dropped, is_used_rela, is_wrong_entry, kind_of, object_fault}
+use Rattle.omos_model.specs.ElfFaults.{is_aim_of, is_in_target, is_local, is_of_dropped}
+use Rattle.omos_model.specs.ElfFaults.{is_used_rela, is_wrong_entry, kind_of, object_fault}
 use Rattle.omos_model.specs.FragmentOf.{is_common}
 use Rattle.omos_model.proofs.Joined.{fourth, rest_false, rest_true}
 use Rattle.omos_model.proofs.Pieces.{kept_section, section_number}
 use Rattle.omos_model.proofs.Ranges.{InRange}
 use Rattle.omos_model.proofs.RightFile.{IsSymbolNumber, right_file, right_symbol}
-use Rattle.fragment_read.specs.Numbered.{has_place}
+use Rattle.fragment_read.specs.inside.Numbered.{has_place}
 
 -- ---- alignments
 
@@ -43,7 +48,8 @@ pub small_alignment : (a : ℕ) → (a == 0 || is_alignment a) ≡ true → a �
 small_alignment a h = go (a == 0) refl
   where
     go : (b : Bool) → (a == 0) ≡ b → a ≤ 4096
-    go true e = subst (λ n. n ≤ 4096) (sym (eqb-true a 0 e)) (let low : 0 ≤ 4096 = omega arith in low)
+    go true e =
+        subst (λ n. n ≤ 4096) (sym (eqb-true a 0 e)) (let low : 0 ≤ 4096 = omega arith in low)
     go false e = some_at_most 4096 a alignments (rest_true (a == 0) (is_alignment a) h e) refl
 
 -- ---- sections
@@ -61,7 +67,8 @@ kept_right file i right kept =
     let fine = or_parts _ _ (rest_false (is_kept file i) _ wrong kept) in
     let sized = or_parts _ _ fine.0 in
     record {
-      there = ltb-true i (e_shnum file) (and_parts (nat_lt 0 i) (nat_lt i (e_shnum file)) section).1;
+      there = ltb-true i (e_shnum file)
+          (and_parts (nat_lt 0 i) (nat_lt i (e_shnum file)) section).1;
       aligned = not-false _ sized.0;
       small = ltb-false 8388608 (sh_size file i) sized.1;
     }
@@ -79,7 +86,9 @@ pub common_right : (file : List ℕ) (k : ℕ) → object_fault file ≡ None �
     → k < symbol_count file → is_common file k ≡ true → CommonSymbol file k
 common_right file k right low high is =
     let symbol = right_symbol file (right_file file right) k (number file k low high) in
-    let parts = and_parts _ _ (rest_true (not (st_shndx file k == shn_common)) _ symbol.common (not_from_true _ is)) in
+    let parts =
+    and_parts _ _
+    (rest_true (not (st_shndx file k == shn_common)) _ symbol.common (not_from_true _ is)) in
     record {
       aligned = parts.0;
       small = leb-true (st_size file k) 8388608 parts.1;
@@ -112,11 +121,14 @@ pub placed_export : (file : List ℕ) (k : ℕ) → object_fault file ≡ None �
 placed_export file k right low high is =
     let symbol = right_symbol file (right_file file right) k (number file k low high) in
     let export = and_parts (has_name file k) (not (st_shndx file k == 0)) is in
-    let dropped = rest_false (has_name file k) (is_of_dropped file k) (not-true _ (and_parts _ _ symbol.value).1) export.0 in
+    let dropped =
+    rest_false (has_name file k) (is_of_dropped file k)
+    (not-true _ (and_parts _ _ symbol.value).1) export.0 in
     is_place (not (is_local file k) && (st_shndx file k == 0)) (st_shndx file k == 65521)
     ((binding file k == 1) && (st_shndx file k == 65522)) (is_section file (st_shndx file k))
     (is_kept file (st_shndx file k)) (is_common file k) symbol.index
-    (and_false (not (is_local file k)) (st_shndx file k == 0) (not-true (st_shndx file k == 0) export.1))
+    (and_false (not (is_local file k)) (st_shndx file k == 0)
+    (not-true (st_shndx file k == 0) export.1))
     (λ h. (and_parts (binding file k == 1) (st_shndx file k == 65522) h).1)
     dropped
 
@@ -165,9 +177,14 @@ pub kept_place : (file : List ℕ) (k : ℕ) → object_fault file ≡ None → 
     → is_common file k ≡ false → KeptPlace file k
 kept_place file k right low high placed fixed common =
     let symbol = right_symbol file (right_file file right) k (number file k low high) in
-    let some = rest_true (st_shndx file k == 65521) (is_common file k || is_kept file (st_shndx file k)) (or_assoc_true (st_shndx file k == 65521) (is_common file k) (is_kept file (st_shndx file k)) placed) fixed in
+    let some =
+    rest_true (st_shndx file k == 65521) (is_common file k || is_kept file (st_shndx file k))
+    (or_assoc_true (st_shndx file k == 65521) (is_common file k)
+    (is_kept file (st_shndx file k)) placed) fixed in
     let kept = rest_true (is_common file k) (is_kept file (st_shndx file k)) some common in
-    let within = rest_true (not (is_kept file (st_shndx file k))) (nat_le (st_value file k) (sh_size file (st_shndx file k)))
+    let within =
+    rest_true (not (is_kept file (st_shndx file k)))
+    (nat_le (st_value file k) (sh_size file (st_shndx file k)))
     (and_parts _ _ symbol.value).0 (not_from_true _ kept) in
     let size = (kept_right file (st_shndx file k) right kept).small in
     let most : st_value file k ≤ sh_size file (st_shndx file k) =
@@ -183,7 +200,8 @@ undropped file k aim some is =
     (and_from (nat_lt 0 k) (is_local file k) (lt-ltb 0 k some) is)
 
 pub aim_there : (file : List ℕ) (k : ℕ) → is_aim_of file k ≡ true → k < symbol_count file
-aim_there file k aim = ltb-true k (symbol_count file) (and_parts (nat_lt k (symbol_count file)) _ aim).0
+aim_there file k aim =
+    ltb-true k (symbol_count file) (and_parts (nat_lt k (symbol_count file)) _ aim).0
 
 -- ---- names
 
@@ -222,7 +240,9 @@ in_row t i s (suc c) j h within =
         more (record { low = omega arith; high = omega arith })
 
 in_rows : (t : ℕ × ℕ → Bool) (used : ℕ → Bool) (count : ℕ → ℕ) (s c i j : ℕ)
-    → list_all t (flat_map (λ i. map (λ j. (i, j)) (numbers_from 0 (count i))) (filter used (numbers_from s c))) ≡ true
+    → list_all t
+    (flat_map (λ i. map (λ j. (i, j)) (numbers_from 0 (count i)))
+    (filter used (numbers_from s c))) ≡ true
     → InRange s c i → used i ≡ true → j < count i → t (i, j) ≡ true
 in_rows t used count s zero i j h within is less =
     let low = within.low in let high = within.high in absurd (omega arith)
@@ -237,7 +257,8 @@ in_rows t used count s (suc c) i j h within is less =
         let low = within.low in
         let high = within.high in record { low = omega arith; high = omega arith }
 
-    go : (b : Bool) → (s == i) ≡ b → list_all t (row s) ≡ true → (InRange (s + 1) c i → t (i, j) ≡ true)
+    go : (b : Bool) → (s == i) ≡ b → list_all t (row s) ≡ true
+        → (InRange (s + 1) c i → t (i, j) ≡ true)
         → t (i, j) ≡ true
     go true e here more =
         subst (λ n. t (n, j) ≡ true) (eqb-true s i e)
@@ -246,13 +267,20 @@ in_rows t used count s (suc c) i j h within is less =
     go false e here more = more (later (eqb-false s i e))
 
     step : (b : Bool) → used s ≡ b
-        → list_all t (flat_map row (cond b (s ∷ filter used (numbers_from (s + 1) c)) (filter used (numbers_from (s + 1) c)))) ≡ true
-        → (list_all t (flat_map row (filter used (numbers_from (s + 1) c))) ≡ true → InRange (s + 1) c i → t (i, j) ≡ true)
+        → list_all t
+        (flat_map row
+        (cond b (s ∷ filter used (numbers_from (s + 1) c))
+        (filter used (numbers_from (s + 1) c)))) ≡ true
+        → (list_all t (flat_map row (filter used (numbers_from (s + 1) c))) ≡ true
+        → InRange (s + 1) c i → t (i, j) ≡ true)
         → t (i, j) ≡ true
     step false e k more = more k (later (λ same. true≢false (sym is ∙ ap used (sym same) ∙ e)))
     step true e k more =
-        let parts = and_parts (list_all t (row s)) (list_all t (flat_map row (filter used (numbers_from (s + 1) c))))
-        (sym (list_all-append t (row s) (flat_map row (filter used (numbers_from (s + 1) c)))) ∙ k) in
+        let parts =
+        and_parts (list_all t (row s))
+        (list_all t (flat_map row (filter used (numbers_from (s + 1) c))))
+        (sym (list_all-append t (row s) (flat_map row (filter used (numbers_from (s + 1) c))))
+        ∙ k) in
         go (s == i) refl parts.0 (more parts.1)
 
 -- an entry of a used section is right
@@ -261,7 +289,8 @@ pub entry_right : (file : List ℕ) (i j : ℕ) → object_fault file ≡ None �
 entry_right file i j right section used less =
     let n = section_number file i section in
     not-true _
-    (in_rows (λ e. not (is_wrong_entry file e)) (is_used_rela file) (entry_count file) 1 (e_shnum file - 1) i j
+    (in_rows (λ e. not (is_wrong_entry file e)) (is_used_rela file) (entry_count file) 1
+    (e_shnum file - 1) i j
     (right_file file right).entries n used less)
 
 -- ---- one entry
@@ -290,9 +319,12 @@ pub right_entry : (file : List ℕ) (i j : ℕ) (kind : Kind) → object_fault f
 right_entry file i j kind right section used less is =
     let wrong = entry_right file i j right section used less in
     let some = isnt_none (r_type file i j) kind is in
-    let fine = not-false _ (rest_false (not (r_type file i j == 0)) _ wrong (not_from_false _ some)) in
+    let fine =
+    not-false _ (rest_false (not (r_type file i j == 0)) _ wrong (not_from_false _ some)) in
     let parts = and_parts (is_in_target file i j) (is_aim_of file (r_sym file i j)) fine in
     let target = (and_parts (sh_type file i == 4) (is_kept file (sh_info file i)) used).1 in
     let size = (kept_right file (sh_info file i) right target).small in
-    let within = in_target (kind_of (r_type file i j)) kind (r_offset file i j) (sh_size file (sh_info file i)) is parts.0 in
+    let within =
+    in_target (kind_of (r_type file i j)) kind (r_offset file i j)
+    (sh_size file (sh_info file i)) is parts.0 in
     record { aim = parts.1; offset = omega arith }

@@ -5,7 +5,7 @@ ghost use Rattle.omos_model.specs.ElfFields.{symbol_count};
 ghost use Rattle.omos_model.specs.ElfFaults.{is_export, object_fault};
 ghost use Rattle.omos_model.specs.FragmentOf.{common_piece, exports_of, is_common};
 ghost use Rattle.omos_model.specs.FragmentParts.{max_entries, max_pieces};
-ghost use Rattle.fragment_read.specs.Numbered.{AreSymbolNames, ArePieceNumbers, export_of};
+ghost use Rattle.fragment_read.specs.inside.Numbered.{AreSymbolNames, ArePieceNumbers, export_of};
 
 use crate::names::name_at;
 use crate::spots::spot_of;

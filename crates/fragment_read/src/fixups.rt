@@ -9,7 +9,7 @@ ghost use Rattle.omos_model.specs.ElfFaults.{entries, entry_count, is_aim_of, is
 ghost use Rattle.omos_model.specs.ElfFaults.{object_fault};
 ghost use Rattle.omos_model.specs.FragmentOf.{aim_of, fixup_of};
 ghost use Rattle.omos_model.specs.Numbers.{numbers_from};
-ghost use Rattle.fragment_read.specs.Numbered.{AreSymbolNames, ArePieceNumbers, fixup_with};
+ghost use Rattle.fragment_read.specs.inside.Numbered.{AreSymbolNames, ArePieceNumbers, fixup_with};
 
 use crate::names::name_at;
 use crate::spots::spot_of;

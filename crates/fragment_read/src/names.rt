@@ -3,7 +3,7 @@
 ghost use Rattle.std.specs.Prelude.{◌≡◌, ◌<◌, ◌≤◌, None, IfOk, IsTrue};
 ghost use Rattle.omos_model.specs.ElfFields.{name_of, symbol_count};
 ghost use Rattle.omos_model.specs.ElfFaults.{has_name, object_fault};
-ghost use Rattle.fragment_read.specs.Numbered.{AreSymbolNames, name_if};
+ghost use Rattle.fragment_read.specs.inside.Numbered.{AreSymbolNames, name_if};
 
 use crate::symbols::has_name;
 use elf_object::Tables;

@@ -3,7 +3,7 @@
 ghost use Rattle.std.specs.Prelude.{◌≡◌, None, IfOk};
 ghost use Rattle.omos_model.specs.ElfFaults.{object_fault};
 ghost use Rattle.omos_model.specs.FragmentOf.{common_piece};
-ghost use Rattle.fragment_read.specs.Numbered.{ArePieceNumbers};
+ghost use Rattle.fragment_read.specs.inside.Numbered.{ArePieceNumbers};
 
 use elf_object::Tables;
 use omos_base::{NoMemory, Row};

@@ -4,7 +4,7 @@ ghost use Rattle.std.specs.Prelude.{◌≡◌, ◌<◌, ◌≤◌, None, IsTrue,
 ghost use Rattle.omos_model.specs.ElfFields.{symbol_count};
 ghost use Rattle.omos_model.specs.ElfFaults.{object_fault};
 ghost use Rattle.omos_model.specs.FragmentOf.{common_piece, is_common, spot_of};
-ghost use Rattle.fragment_read.specs.Numbered.{ArePieceNumbers, has_place};
+ghost use Rattle.fragment_read.specs.inside.Numbered.{ArePieceNumbers, has_place};
 
 use elf_object::Tables;
 use elf_words::values::{SHN_ABS, SHN_COMMON};

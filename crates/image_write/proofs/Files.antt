@@ -1,12 +1,15 @@
 -- The file that is written is the image.
-use Rattle.std.proofs.Common.{◌≡◌, ℕ, ◌+◌, ◌-◌, ◌*◌, List, ◌++◌, length, take, drop, map, replicate, Some, None, Ok, Err, unwrap_or, sym, ap, subst, ◌∙◌, arith}
+use Rattle.std.proofs.Common.{◌≡◌, ℕ, ◌+◌, ◌-◌, ◌*◌, List, ◌++◌, length, take, drop, map, replicate}
+use Rattle.std.proofs.Common.{Some, None, Ok, Err, unwrap_or, sym, ap, subst, ◌∙◌, arith}
 use Rattle.std.specs.Option.{option_map}
-use Rattle.std.proofs.lemmas.List.{drop_at, length-append, length-replicate, take-append-drop, take_at}
+use Rattle.std.proofs.lemmas.List.{drop_at, length-append, length-replicate, take-append-drop}
+use Rattle.std.proofs.lemmas.List.{take_at}
 use Rattle.omos_base.specs.Fields.{zeros}
 use Rattle.omos_model.specs.Numbers.{numbers_from}
 use Rattle.omos_model.specs.declared.fragment.Group.TheVariants.{Zeros}
 use Rattle.omos_model.specs.declared.refusal.Refusal.{Refusal}
-use Rattle.link_model.specs.ImageBytes.{byte_of, entry_address, file_bytes, header_page, image_bytes, overflow, unless_overflow}
+use Rattle.link_model.specs.ImageBytes.{byte_of, entry_address, file_bytes, header_page}
+use Rattle.link_model.specs.ImageBytes.{image_bytes, overflow, unless_overflow}
 use Rattle.link_model.specs.Layout.{slot_number}
 use Rattle.link_model.specs.Module.{Module, Placing}
 use Rattle.link_model.specs.Plan.{Plan}
@@ -16,7 +19,7 @@ use Rattle.image_write.specs.declared.slots.SlotTable.{SlotTable}
 use Rattle.image_write.specs.Addresses.{IsTable}
 use Rattle.image_write.specs.Filled.{IsComplete, filled_byte, first_overflow}
 use Rattle.image_write.specs.Groups.{bytes_in_file}
-use Rattle.image_write.specs.Headers.{page_in}
+use Rattle.image_write.specs.inside.Headers.{page_in}
 use Rattle.image_write.specs.Painted.{Painted}
 use Rattle.image_write.specs.Plans.{plan_with}
 use Rattle.image_write.specs.Sound.{IsSound}
@@ -24,23 +27,27 @@ use Rattle.image_write.specs.Written.{entry_in}
 use Rattle.image_write.proofs.Bytes.{SlotsStand, address-same, body-bytes, overflow-same}
 use Rattle.image_write.proofs.HeaderPages.{page-same}
 
-image-ok : (plan : Plan) (base : ℕ) (bytes : List ℕ) → overflow plan base ≡ None → bytes ≡ file_bytes plan base
+image-ok : (plan : Plan) (base : ℕ) (bytes : List ℕ) → overflow plan base ≡ None
+    → bytes ≡ file_bytes plan base
     → image_bytes plan base ≡ Ok bytes
 unfolding image_bytes
 image-ok plan base bytes none e = λ i. unless_overflow (none i) (sym e i)
 
-image-err : (plan : Plan) (base : ℕ) (x : Refusal) → overflow plan base ≡ Some x → image_bytes plan base ≡ Err x
+image-err : (plan : Plan) (base : ℕ) (x : Refusal) → overflow plan base ≡ Some x
+    → image_bytes plan base ≡ Err x
 unfolding image_bytes
 image-err plan base x some = ap (λ o. unless_overflow o (file_bytes plan base)) some
 
 -- a page, and zeros behind it
-pub rest-size : (items page : List ℕ) (head n : ℕ) → items ≡ page ++ zeros n → head ≡ length page → length items ≡ head + n
+pub rest-size : (items page : List ℕ) (head n : ℕ) → items ≡ page ++ zeros n → head ≡ length page
+    → length items ≡ head + n
 unfolding zeros
 rest-size items page head n e h =
     let all = ap length e ∙ length-append page (replicate n 0) in
     omega (arith, all, length-replicate {A = ℕ} n 0)
 
-rest-zeros : (items page : List ℕ) (head n : ℕ) → items ≡ page ++ zeros n → head ≡ length page → drop head items ≡ replicate n 0
+rest-zeros : (items page : List ℕ) (head n : ℕ) → items ≡ page ++ zeros n → head ≡ length page
+    → drop head items ≡ replicate n 0
 unfolding zeros
 rest-zeros items page head n e h = ap (drop head) e ∙ drop_at page (replicate n 0) head (sym h)
 
@@ -49,10 +56,12 @@ slots-stand : (x : Groups) (m : Module) (l : Placing) (table : SlotTable) (base 
 slots-stand x m l table base sound h t =
     h.each t ∙ (λ i. base + sound.groups.slots i + 8 * slot_number l.slots t)
 
-entry-same : (plan : Plan) (base : ℕ) → entry_in plan.places base plan.entry ≡ entry_address plan base
+entry-same : (plan : Plan) (base : ℕ)
+    → entry_in plan.places base plan.entry ≡ entry_address plan base
 entry-same plan base = λ i. unwrap_or (option_map (λ t. address-same plan base t i) plan.entry) 0
 
-pub written-ok : (x : Groups) (m : Module) (l : Placing) (table : SlotTable) (base entry head : ℕ) (items new page : List ℕ)
+pub written-ok : (x : Groups) (m : Module) (l : Placing) (table : SlotTable) (base entry head : ℕ)
+    (items new page : List ℕ)
     → IsSound x m l → IsTable table l.slots (base + x.slots)
     → entry ≡ entry_in l.places base l.entry → page ≡ page_in x base entry
     → items ≡ page ++ zeros x.begins.zeros → head ≡ length page → take head new ≡ take head items
@@ -63,19 +72,26 @@ written-ok x m l table base entry head items new page sound h en pn bn hn kept f
     let plan = plan_with m l in
     let slots = slots-stand x m l table base sound h in
     let old : drop head items ≡ replicate (bytes_in_file plan.parts) 0 =
-    rest-zeros items page head x.begins.zeros bn hn ∙ ap (λ n. replicate n 0) (sound.groups.begins Zeros) in
+    rest-zeros items page head x.begins.zeros bn hn
+    ∙ ap (λ n. replicate n 0) (sound.groups.begins Zeros) in
     let body : drop head new ≡ map (byte_of plan base) (numbers_from 0 (bytes_in_file plan.parts)) =
     body-bytes plan base table m.leaves (drop head new) slots sound.same sound.stand sound.lawful
-    (subst (λ (xs : List ℕ). Painted (drop head new) (filled_byte plan base table m.leaves) xs) old filled.painted) in
+    (subst (λ (xs : List ℕ). Painted (drop head new) (filled_byte plan base table m.leaves) xs) old
+    filled.painted) in
     let front : take head new ≡ header_page plan base =
     kept ∙ ap (take head) bn ∙ take_at page (replicate x.begins.zeros 0) head (sym hn) ∙ pn
     ∙ page-same x plan base entry sound.groups (en ∙ entry-same plan base) in
-    image-ok plan base new (sym (overflow-same plan base table slots (references plan.parts)) ∙ filled.fit)
+    image-ok plan base new (sym (overflow-same plan base table slots (references plan.parts))
+    ∙ filled.fit)
     (sym (take-append-drop head new) ∙ (λ i. front i ++ body i))
 
-pub written-err : (x : Groups) (m : Module) (l : Placing) (table : SlotTable) (base : ℕ) (y : Refusal)
-    → IsSound x m l → IsTable table l.slots (base + x.slots) → first_overflow (plan_with m l) base table m.leaves ≡ Some y
+pub written-err : (x : Groups) (m : Module) (l : Placing) (table : SlotTable) (base : ℕ)
+    (y : Refusal)
+    → IsSound x m l → IsTable table l.slots (base + x.slots)
+    → first_overflow (plan_with m l) base table m.leaves ≡ Some y
     → image_bytes (plan_with m l) base ≡ Err y
 written-err x m l table base y sound h some =
     let plan = plan_with m l in
-    image-err plan base y (sym (overflow-same plan base table (slots-stand x m l table base sound h) (references plan.parts)) ∙ some)
+    image-err plan base y
+    (sym (overflow-same plan base table (slots-stand x m l table base sound h)
+    (references plan.parts)) ∙ some)

@@ -10,12 +10,14 @@ use Rattle.link_model.specs.Plan.{Plan}
 use Rattle.link_model.specs.ImageBytes.{entry_address, header_page, headers, program_headers, stack}
 use Rattle.link_model.specs.declared.groups.Groups.{Groups}
 use Rattle.image_write.specs.Groups.{AreGroups}
-use Rattle.image_write.specs.Headers.{all_groups, ehdr_with, front_in, headers_in, load_at, page_in}
+use Rattle.image_write.specs.inside.Headers.{all_groups, ehdr_with, front_in, headers_in, load_at}
+use Rattle.image_write.specs.inside.Headers.{page_in}
 
 headers-same : (groups : Groups) (plan : Plan) (base : ℕ) → AreGroups groups plan.parts
     → headers_in groups base ≡ program_headers plan base
 headers-same groups plan base a =
-    λ i. map (λ g. load_at base g (a.begins g i) (a.sizes g i)) (filter (λ g. not (a.sizes g i == 0)) all_groups) ++ stack ∷ []
+    λ i. map (λ g. load_at base g (a.begins g i) (a.sizes g i))
+    (filter (λ g. not (a.sizes g i == 0)) all_groups) ++ stack ∷ []
 
 front-same : (groups : Groups) (plan : Plan) (base entry : ℕ) → AreGroups groups plan.parts
     → entry ≡ entry_address plan base → front_in groups base entry ≡ headers plan base

@@ -5,7 +5,9 @@ use Rattle.std.specs.List.{list_all}
 use Rattle.std.proofs.lemmas.Bool.{and_parts, leb-true}
 use Rattle.std.proofs.lemmas.List.Elements.{All-weaker}
 use Rattle.std.proofs.lemmas.List.Sums.{AllPass-from_list_all}
-use Rattle.omos_model.specs.FragmentParts.{FragmentParts, IsFragment, are_distinct, is_fixup, is_in_bounds, is_piece, is_spot, is_zeros, max_entries, max_pieces}
+use Rattle.omos_model.specs.FragmentParts.{FragmentParts, IsFragment, are_distinct, is_fixup}
+use Rattle.omos_model.specs.FragmentParts.{is_in_bounds, is_piece, is_spot, is_zeros, max_entries}
+use Rattle.omos_model.specs.FragmentParts.{max_pieces}
 use Rattle.omos_model.specs.declared.fragment.Piece.{Piece}
 use Rattle.link_layout.specs.Pieces.{AreBounded, IsBoundedPiece}
 
@@ -22,7 +24,9 @@ tested f h =
     let d = list_all is_piece f.pieces in
     let e = list_all (λ x. is_spot f.pieces x.spot) f.exports in
     let g = list_all (is_fixup f.pieces) f.fixups in
-    let six = and_parts (a && b && c && d && e) g (and_parts (is_in_bounds f) (are_distinct f.exports) h).0 in
+    let six =
+    and_parts (a && b && c && d && e) g
+    (and_parts (is_in_bounds f) (are_distinct f.exports) h).0 in
     let four = and_parts (a && b && c) d (and_parts (a && b && c && d) e six.0).0 in
     let two = and_parts a b (and_parts (a && b) c four.0).0 in
     record {
@@ -37,7 +41,11 @@ one-bounded p h = search (rules, tests)
 pub bounded : (f : FragmentParts) → IsFragment f → AreBounded f.pieces
 bounded f h =
     let t = tested f h in
-    record { count = t.count; each = All-weaker (λ p. is_piece p ≡ true) IsBoundedPiece one-bounded f.pieces t.pieces }
+    record {
+      count = t.count;
+      each = All-weaker (λ p. is_piece p ≡ true) IsBoundedPiece one-bounded f.pieces t.pieces;
+    }
 
-pub piece-bytes : (p : Piece) → is_piece p ≡ true → length p.bytes ≡ (if is_zeros p.group then 0 else p.size)
+pub piece-bytes : (p : Piece) → is_piece p ≡ true
+    → length p.bytes ≡ (if is_zeros p.group then 0 else p.size)
 piece-bytes p h = search (rules, tests)

@@ -1,5 +1,7 @@
 -- Writes over a list of bytes, one after another.
-use Rattle.std.proofs.Common.{◌≡◌, ℕ, ◌+◌, ◌-◌, ◌<◌, ◌≤◌, List, ◌++◌, length, get_or, take, drop, Option, Some, None, unwrap_or, refl, sym, ap, ◌∙◌, arith, rules, inl, inr}
+use Rattle.std.proofs.Common.{◌≡◌, ℕ, ◌+◌, ◌-◌, ◌<◌, ◌≤◌, List, ◌++◌, length, get_or, take, drop}
+use Rattle.std.proofs.Common.{Option, Some, None, unwrap_or, refl, sym, ap, ◌∙◌, arith, rules, inl}
+use Rattle.std.proofs.Common.{inr}
 use Rattle.std.proofs.lemmas.Bool.{cases_lt}
 use Rattle.std.specs.Prelude.{slice_index}
 use Rattle.std.specs.Option.{option_map, option_or}
@@ -15,21 +17,28 @@ painted-nothing old = record { size = refl; each = λ x h. refl }
 pub painted-as : {new old : List ℕ} {p : ℕ → Option ℕ} (q : ℕ → Option ℕ) → Painted new p old
     → ((x : ℕ) → x < length old → p x ≡ q x) → Painted new q old
 painted-as {old} q h same =
-    record { size = h.size; each = λ x lt. h.each x lt ∙ (λ i. unwrap_or (same x lt i) (slice_index old x)) }
+    record {
+      size = h.size;
+      each = λ x lt. h.each x lt
+          ∙ (λ i. unwrap_or (same x lt i) (slice_index old x));
+    }
 
 -- one call after another
-or_else : {X : Type 0} (p q : Option X) (d : X) → unwrap_or q (unwrap_or p d) ≡ unwrap_or (option_or q p) d
+or_else : {X : Type 0} (p q : Option X) (d : X)
+    → unwrap_or q (unwrap_or p d) ≡ unwrap_or (option_or q p) d
 or_else p (Some y) d = refl
 or_else p None d = refl
 
-pub painted-then : {new mid old : List ℕ} {p q : ℕ → Option ℕ} → Painted new q mid → Painted mid p old
+pub painted-then : {new mid old : List ℕ} {p q : ℕ → Option ℕ} → Painted new q mid
+    → Painted mid p old
     → Painted new (λ x. option_or (q x) (p x)) old
 painted-then {new} {mid} {old} {p} {q} later before =
     record {
       size = later.size ∙ before.size;
       each = λ x lt.
           let within : x < length mid = omega (arith, before.size) in
-          later.each x within ∙ ap (unwrap_or (q x)) (before.each x lt) ∙ or_else (p x) (q x) (slice_index old x);
+          later.each x within ∙ ap (unwrap_or (q x)) (before.each x lt)
+          ∙ or_else (p x) (q x) (slice_index old x);
     }
 
 -- a function of one of two
@@ -45,18 +54,21 @@ run_at-inside at bytes x h k = grind (arith, nat_tests)
 pub run_at-below : (at : ℕ) (bytes : List ℕ) (x : ℕ) → x < at → run_at at bytes x ≡ None
 run_at-below at bytes x h = grind (arith, nat_tests)
 
-pub run_at-behind : (at : ℕ) (bytes : List ℕ) (x : ℕ) → at + length bytes ≤ x → run_at at bytes x ≡ None
+pub run_at-behind : (at : ℕ) (bytes : List ℕ) (x : ℕ) → at + length bytes ≤ x
+    → run_at at bytes x ≡ None
 run_at-behind at bytes x h = grind (arith, nat_tests)
 
 -- the bytes once others are written from a place on
 abbrev with_run : List ℕ → ℕ → List ℕ → List ℕ
 with_run old at bytes = take at old ++ bytes ++ drop (at + length bytes) old
 
-with_run-below : (old : List ℕ) (at : ℕ) (bytes : List ℕ) (x : ℕ) → at + length bytes ≤ length old → x < at
+with_run-below : (old : List ℕ) (at : ℕ) (bytes : List ℕ) (x : ℕ) → at + length bytes ≤ length old
+    → x < at
     → get_or (with_run old at bytes) x 0 ≡ get_or old x 0
 with_run-below old at bytes x fits h = search (rules, places)
 
-with_run-inside : (old : List ℕ) (at : ℕ) (bytes : List ℕ) (x : ℕ) → at + length bytes ≤ length old → at ≤ x
+with_run-inside : (old : List ℕ) (at : ℕ) (bytes : List ℕ) (x : ℕ) → at + length bytes ≤ length old
+    → at ≤ x
     → x < at + length bytes → get_or (with_run old at bytes) x 0 ≡ get_or bytes (x - at) 0
 with_run-inside old at bytes x fits h k = search (rules, places)
 
@@ -79,10 +91,12 @@ painted-run old at bytes fits =
                 elim (cases_lt x (at + length bytes)) [
                   | inl to ↦
                       with_run-inside old at bytes x fits from to
-                      ∙ (λ i. unwrap_or (sym (run_at-inside at bytes x from to) i) (slice_index old x))
+                      ∙ (λ i. unwrap_or (sym (run_at-inside at bytes x from to) i)
+                      (slice_index old x))
                   | inr behind ↦
                       with_run-behind old at bytes x fits behind
-                      ∙ (λ i. unwrap_or (sym (run_at-behind at bytes x behind) i) (slice_index old x))
+                      ∙ (λ i. unwrap_or (sym (run_at-behind at bytes x behind) i)
+                      (slice_index old x))
                 ]
           ];
     }

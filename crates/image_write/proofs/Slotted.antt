@@ -1,5 +1,7 @@
 -- The table of slots, filled from the last, and the slots' bytes.
-use Rattle.std.proofs.Common.{◌≡◌, ℕ, ◌+◌, ◌-◌, ◌*◌, ◌/◌, ◌%◌, ◌<◌, ◌≤◌, List, ◌∷◌, length, get_or, drop, not, cond, Option, Some, None, Bool, true, false, unwrap_or, refl, sym, ap, subst, ◌∙◌, arith, inl, inr}
+use Rattle.std.proofs.Common.{◌≡◌, ℕ, ◌+◌, ◌-◌, ◌*◌, ◌/◌, ◌%◌, ◌<◌, ◌≤◌, List, ◌∷◌, length, get_or}
+use Rattle.std.proofs.Common.{drop, not, cond, Option, Some, None, Bool, true, false, unwrap_or}
+use Rattle.std.proofs.Common.{refl, sym, ap, subst, ◌∙◌, arith, inl, inr}
 use Rattle.std.specs.Prelude.{slice_get, slice_index, if◌then◌else◌}
 use Rattle.std.specs.Map.{lookup}
 use Rattle.std.specs.Option.{option_map, option_or}
@@ -13,8 +15,9 @@ use Rattle.link_model.specs.ImageBytes.{covers}
 use Rattle.link_model.specs.Layout.{same_target, slot_number}
 use Rattle.image_write.specs.Addresses.{address_in, slots_byte}
 use Rattle.image_write.specs.Painted.{Painted, run_at}
-use Rattle.link_layout.specs.Targets.{same_target-decides}
-use Rattle.image_write.proofs.Painting.{painted-as, painted-run, painted-then, run_at-behind, run_at-below, run_at-inside}
+use Rattle.link_layout.specs.inside.Targets.{same_target-decides}
+use Rattle.image_write.proofs.Painting.{painted-as, painted-run, painted-then, run_at-behind}
+use Rattle.image_write.proofs.Painting.{run_at-below, run_at-inside}
 use Rattle.std.proofs.lemmas.Option.{slice_get_read}
 
 -- ---- the table
@@ -24,21 +27,27 @@ same_target-swap x y =
     same_from_decides (same_target x y) (same_target y x) (same_target-decides x y)
     (λ h. sym ((same_target-decides y x).0 h), λ e. (same_target-decides y x).1 (sym e))
 
-entered : (b : Bool) (o : Option ℕ) (behind first k at value n : ℕ) → value ≡ first + 8 * k → at ≡ k + 1
+entered : (b : Bool) (o : Option ℕ) (behind first k at value n : ℕ) → value ≡ first + 8 * k
+    → at ≡ k + 1
     → unwrap_or o behind ≡ first + 8 * (at + n)
     → unwrap_or (cond b (Some value) o) behind ≡ first + 8 * (k + cond (not b) (1 + n) 0)
 entered true o behind first k at value n v a h = omega arith
 entered false o behind first k at value n v a h = h ∙ omega arith
 
-pub table-goes : (slots : List Target) (k at : ℕ) (s key t : Target) (behind first value : ℕ) (new old : List (Target × ℕ))
+pub table-goes : (slots : List Target) (k at : ℕ) (s key t : Target) (behind first value : ℕ)
+    (new old : List (Target × ℕ))
     → k < length slots → s ≡ get_or slots k s → key ≡ s → value ≡ first + 8 * k → at ≡ k + 1
-    → lookup (same_target t) new ≡ cond (same_target key t) (Some value) (lookup (same_target t) old)
-    → unwrap_or (lookup (same_target t) old) behind ≡ first + 8 * (at + slot_number (drop at slots) t)
+    → lookup (same_target t) new
+    ≡ cond (same_target key t) (Some value) (lookup (same_target t) old)
+    → unwrap_or (lookup (same_target t) old) behind
+    ≡ first + 8 * (at + slot_number (drop at slots) t)
     → unwrap_or (lookup (same_target t) new) behind ≡ first + 8 * (k + slot_number (drop k slots) t)
 table-goes slots k at s key t behind first value new old lt es ek v a h old_is =
     ap (λ o. unwrap_or o behind)
-    (h ∙ (λ i. cond ((same_target-swap key t ∙ ap (same_target t) ek) i) (Some value) (lookup (same_target t) old)))
-    ∙ entered (same_target t s) (lookup (same_target t) old) behind first k at value (slot_number (drop (k + 1) slots) t) v a
+    (h ∙ (λ i. cond ((same_target-swap key t ∙ ap (same_target t) ek) i) (Some value)
+    (lookup (same_target t) old)))
+    ∙ entered (same_target t s) (lookup (same_target t) old) behind first k at value
+    (slot_number (drop (k + 1) slots) t) v a
     (old_is ∙ ap (λ n. first + 8 * (at + slot_number (drop n slots) t)) a)
     ∙ ap (λ xs. first + 8 * (k + slot_number xs t))
     (sym (drop_more slots k s lt ∙ (λ i. sym es i ∷ drop (k + 1) slots)))
@@ -47,7 +56,8 @@ table-goes slots k at s key t behind first value new old lt es ek v a h old_is =
 
 abbrev slot_byte_in : List (List ℕ) → ℕ → List Target → ℕ → ℕ → Option ℕ
 slot_byte_in places base slots begin x =
-    option_map (λ target. slice_index (little_bytes 8 (address_in places base target)) ((x - begin) % 8))
+    option_map
+    (λ target. slice_index (little_bytes 8 (address_in places base target)) ((x - begin) % 8))
     (slice_get slots ((x - begin) / 8))
 
 covers-yes : (begin size x : ℕ) → begin ≤ x → x < begin + size → covers begin size x ≡ true
@@ -74,8 +84,10 @@ from_second a b c o p q r = (λ i. option_or (p i) (q i)) ∙ sym r
 from_first : {X : Type 0} (a b c : Option X) (y : X) → a ≡ Some y → c ≡ Some y → option_or a b ≡ c
 from_first a b c y p r = ap (λ o. option_or o b) p ∙ sym r
 
-slots_byte-next : (places : List (List ℕ)) (base : ℕ) (slots : List Target) (begin i : ℕ) (target : Target) (bytes : List ℕ) (x : ℕ)
-    → i < length slots → target ≡ get_or slots i target → bytes ≡ little_bytes 8 (address_in places base target) → length bytes ≡ 8
+slots_byte-next : (places : List (List ℕ)) (base : ℕ) (slots : List Target) (begin i : ℕ)
+    (target : Target) (bytes : List ℕ) (x : ℕ)
+    → i < length slots → target ≡ get_or slots i target
+    → bytes ≡ little_bytes 8 (address_in places base target) → length bytes ≡ 8
     → option_or (run_at (begin + 8 * i) bytes x) (slots_byte places base slots begin i x)
     ≡ slots_byte places base slots begin (i + 1) x
 slots_byte-next places base slots begin i target bytes x lt et eb n =
@@ -94,7 +106,8 @@ slots_byte-next places base slots begin i target bytes x lt et eb n =
                 elim (cases_lt x (begin + 8 * i + 8)) [
                   | inl now ↦
                       from_first _ _ _ _ (run_at-inside (begin + 8 * i) bytes x new (omega arith))
-                      (if_some _ inner (covers-yes begin (8 * (i + 1)) x from (omega arith)) ∙ here new now)
+                      (if_some _ inner (covers-yes begin (8 * (i + 1)) x from (omega arith))
+                      ∙ here new now)
                   | inr behind ↦
                       none_both _ _ _ (run_at-behind (begin + 8 * i) bytes x (omega arith))
                       (if_none _ inner (covers-behind begin (8 * i) x (omega arith)))
@@ -105,23 +118,32 @@ slots_byte-next places base slots begin i target bytes x lt et eb n =
       inner : Option ℕ
       inner = slot_byte_in places base slots begin x
 
-      here : begin + 8 * i ≤ x → x < begin + 8 * i + 8 → inner ≡ Some (slice_index bytes (x - (begin + 8 * i)))
+      here : begin + 8 * i ≤ x → x < begin + 8 * i + 8
+          → inner ≡ Some (slice_index bytes (x - (begin + 8 * i)))
       here h k =
           let q : (x - begin) / 8 ≡ i = omega arith in
           let m : (x - begin) % 8 ≡ x - (begin + 8 * i) = omega arith in
-          (λ j. option_map (λ t. slice_index (little_bytes 8 (address_in places base t)) (m j)) (slice_get slots (q j)))
-          ∙ ap (option_map (λ t. slice_index (little_bytes 8 (address_in places base t)) (x - (begin + 8 * i))))
+          (λ j. option_map (λ t. slice_index (little_bytes 8 (address_in places base t)) (m j))
+          (slice_get slots (q j)))
+          ∙ ap (option_map
+          (λ t. slice_index (little_bytes 8 (address_in places base t)) (x - (begin + 8 * i))))
           (slice_get_read slots (length slots) i target refl lt et)
           ∙ (λ j. Some (slice_index (sym eb j) (x - (begin + 8 * i))))
 
-pub slots-go : (places : List (List ℕ)) (base : ℕ) (slots : List Target) (begin i value : ℕ) (target : Target) (new mid old : List ℕ)
+pub slots-go : (places : List (List ℕ)) (base : ℕ) (slots : List Target) (begin i value : ℕ)
+    (target : Target) (new mid old : List ℕ)
     → i < length slots → value ≡ address_in places base target → target ≡ get_or slots i target
     → begin + 8 * length slots ≤ length old → new ≡ with_number 8 (begin + 8 * i) value mid
-    → Painted mid (slots_byte places base slots begin i) old → Painted new (slots_byte places base slots begin (i + 1)) old
+    → Painted mid (slots_byte places base slots begin i) old
+    → Painted new (slots_byte places base slots begin (i + 1)) old
 slots-go places base slots begin i value target new mid old lt ev et fits en before =
     let fits' : begin + 8 * i + 8 ≤ length mid = omega (arith, before.size) in
-    let run : Painted (with_number 8 (begin + 8 * i) value mid) (run_at (begin + 8 * i) (little_bytes 8 value)) mid = painted-run mid (begin + 8 * i) (little_bytes 8 value) fits' in
+    let run : Painted (with_number 8 (begin + 8 * i) value mid)
+    (run_at (begin + 8 * i) (little_bytes 8 value)) mid =
+    painted-run mid (begin + 8 * i) (little_bytes 8 value) fits' in
     let later : Painted new (run_at (begin + 8 * i) (little_bytes 8 value)) mid =
-    subst (λ (xs : List ℕ). Painted xs (run_at (begin + 8 * i) (little_bytes 8 value)) mid) (sym en) run in
+    subst (λ (xs : List ℕ). Painted xs (run_at (begin + 8 * i) (little_bytes 8 value)) mid) (sym en)
+    run in
     painted-as (slots_byte places base slots begin (i + 1)) (painted-then later before)
-    (λ x _. slots_byte-next places base slots begin i target (little_bytes 8 value) x lt et (ap (little_bytes 8) ev) refl)
+    (λ x _. slots_byte-next places base slots begin i target (little_bytes 8 value) x lt et
+    (ap (little_bytes 8) ev) refl)

@@ -1,5 +1,6 @@
 -- A laid out module is sound.
-use Rattle.std.proofs.Common.{◌≡◌, ℕ, ◌^◌, ◌≤◌, List, [], All, length, Option, Some, None, Ok, refl, sym, ap, subst, ◌∙◌, arith}
+use Rattle.std.proofs.Common.{◌≡◌, ℕ, ◌^◌, ◌≤◌, List, [], All, length, Option, Some, None, Ok, refl}
+use Rattle.std.proofs.Common.{sym, ap, subst, ◌∙◌, arith}
 use Rattle.std.specs.Option.{option_or}
 use Rattle.std.proofs.lemmas.Bool.Decides.{nat_tests}
 use Rattle.std.proofs.lemmas.List.Elements.{All-weaker}
@@ -9,8 +10,10 @@ use Rattle.omos_model.specs.declared.refusal.Refusal.{Refusal}
 use Rattle.link_model.specs.Laws.{BoundsLaw}
 use Rattle.link_model.specs.Groups.{groups_of}
 use Rattle.link_model.specs.Layout.{all_pages, group_begin, places_of, slots_of}
-use Rattle.link_model.specs.Module.{IsModule, plan_of_module, Module, Placing, found, parts_of_module, placing_of, terms_of_module}
-use Rattle.link_model.specs.Plan.{Plan, no_start, plan_refusal, planned, too_large, unless_refused, unresolved}
+use Rattle.link_model.specs.Module.{IsModule, plan_of_module, Module, Placing, found}
+use Rattle.link_model.specs.Module.{parts_of_module, placing_of, terms_of_module}
+use Rattle.link_model.specs.Plan.{Plan, no_start, plan_refusal, planned, too_large, unless_refused}
+use Rattle.link_model.specs.Plan.{unresolved}
 use Rattle.link_model.specs.Program.{Parts, object_of}
 use Rattle.link_layout.proofs.Groups.{begins-of_groups, sizes-of_groups}
 use Rattle.link_layout.proofs.Parts.{pieces-parts}
@@ -51,13 +54,15 @@ pub record IsPlanned (m : Module) (l : Placing) : Type 0 where
 is-planned : (m : Module) (l : Placing) → IsLayoutOf m l → IsPlanned m l
 is-planned m l laid =
     let parts = parts_of_module m in
-    let split = unrefused (plan_refusal parts (found m.names) m.start) (program_plan m) laid.0 laid.1 in
+    let split =
+    unrefused (plan_refusal parts (found m.names) m.start) (program_plan m) laid.0 laid.1 in
     record {
       plan = laid.1 ∙ ap Ok (sym split.1);
       placing = laid.2 ∙ ap placing_of (sym split.1);
       pages =
           few_pages parts
-          (first_none (too_large parts) (option_or (no_start (found m.names) m.start) (unresolved parts)) split.0);
+          (first_none (too_large parts)
+          (option_or (no_start (found m.names) m.start) (unresolved parts)) split.0);
     }
 
 -- ---- groups
@@ -88,12 +93,15 @@ sound law x m l ism laid groups lawful =
     let count = as_many m ism in
     let same = pieces-parts m.leaves m.landings count in
     let bounds : All (λ leaf. AreBounded (pieces_in leaf)) m.leaves =
-    All-weaker IsLawful (λ leaf. AreBounded (pieces_in leaf)) (λ leaf h. bounded (object_of leaf) h) m.leaves lawful in
-    let are : AreGroups x parts = groups-stand x parts (groups ∙ ap (λ (y : Placing). y.groups) placing) in
+    All-weaker IsLawful (λ leaf. AreBounded (pieces_in leaf)) (λ leaf h. bounded (object_of leaf) h)
+    m.leaves lawful in
+    let are : AreGroups x parts =
+    groups-stand x parts (groups ∙ ap (λ (y : Placing). y.groups) placing) in
     let places : l.places ≡ places_of parts = ap (λ (y : Placing). y.places) placing in
     let slots : l.slots ≡ slots_of parts = ap (λ (y : Placing). y.slots) placing in
     let stand : LeavesStand parts l.places m.leaves =
-    subst (λ (ps : List (List ℕ)). LeavesStand parts ps m.leaves) (sym places) (leaves-stand parts [] m.leaves m.landings count same bounds) in
+    subst (λ (ps : List (List ℕ)). LeavesStand parts ps m.leaves) (sym places)
+    (leaves-stand parts [] m.leaves m.landings count same bounds) in
     let within = slots-inside parts in
     let many : length l.slots ≡ length (slots_of parts) = ap length slots in
     record {

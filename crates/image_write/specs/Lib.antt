@@ -1,6 +1,5 @@
 pub mod Groups
 pub mod Plans
-pub mod Headers
 pub mod Painted
 pub mod Sections
 pub mod Addresses
@@ -9,3 +8,4 @@ pub mod Standing
 pub mod Filled
 pub mod Sound
 pub mod Written
+pub mod inside

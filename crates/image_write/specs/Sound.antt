@@ -32,5 +32,6 @@ pub record IsSound (x : Groups) (m : Module) (l : Placing) : Type 0 where
   pub stand : LeavesStand (parts_of_module m) l.places m.leaves
   pub low : AreLow l.places
   pub pieces : AreInside (bytes_in_file (parts_of_module m)) l.places m.leaves
-  pub slots : slots_begin (parts_of_module m) + 8 * length l.slots ≤ bytes_in_file (parts_of_module m)
+  pub slots : slots_begin (parts_of_module m) + 8 * length l.slots
+      ≤ bytes_in_file (parts_of_module m)
   pub fields : AreFieldsInside (bytes_in_file (parts_of_module m)) l.places m.leaves

@@ -1,11 +1,11 @@
 //! Where the groups of a module stand, and that all it places lies in the file.
 
 ghost use Rattle.image_write.specs.Sound.{IsLayoutOf, IsSound};
+ghost use Rattle.link_model.specs.Layout.{program_pieces};
 
 use link_layout::are_lawful;
 use link_model::laws::modules_are_bounded;
 use link_model::{Evaluated, Groups, Layout};
-ghost use Rattle.link_model.specs.Layout.{program_pieces};
 
 /// Where the groups of a laid out module stand, and that all it places lies in the file. It reads
 /// what the layout keeps; the rest is what types keep.

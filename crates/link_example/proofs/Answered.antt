@@ -23,6 +23,7 @@ answered a b c x y z p q r ns result first second third pa qb rc made is = recor
   is_second = second;
   is_blueprint = third;
   answered =
-      sym (ap (λ s. answer s c.path.now 4194304) (made ∙ (λ i. namespace_of (pa i, x) (qb i, y) (rc i, z))))
+      sym (ap (λ s. answer s c.path.now 4194304)
+      (made ∙ (λ i. namespace_of (pa i, x) (qb i, y) (rc i, z))))
       ∙ is;
 }

@@ -27,7 +27,8 @@ pub record IsAnswered (a b c : Published) (result : Result (List ℕ) Refusal) :
   pub is_first : IsObject a.content.now first
   pub is_second : IsObject b.content.now second
   pub is_blueprint : IsBlueprint c.content.now blueprint
-  pub answered : answer (namespace_of (put a first) (put b second) (put c blueprint)) c.path.now base
+  pub answered : answer (namespace_of (put a first) (put b second) (put c blueprint)) c.path.now
+      base
       ≡ result
 
 -- the image is the answer

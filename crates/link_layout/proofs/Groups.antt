@@ -5,7 +5,8 @@ use Rattle.omos_model.specs.declared.fragment.Group.{Group}
 use Rattle.omos_model.specs.declared.fragment.Group.TheVariants.{Code, Consts, Vars, Zeros}
 use Rattle.omos_model.specs.declared.fragment.Piece.{Piece}
 use Rattle.link_model.specs.Program.{Parts}
-use Rattle.link_model.specs.Layout.{aligned, all_pages, end_of, end_with, group_begin, group_size, page, pages_of, program_pieces}
+use Rattle.link_model.specs.Layout.{aligned, all_pages, end_of, end_with, group_begin, group_size}
+use Rattle.link_model.specs.Layout.{page, pages_of, program_pieces}
 use Rattle.link_model.specs.declared.groups.ByGroup.{ByGroup}
 use Rattle.link_model.specs.declared.groups.Groups.{Groups}
 use Rattle.link_model.specs.Groups.{by_group, bytes_of, groups_of}
@@ -13,9 +14,11 @@ use Rattle.link_layout.specs.Layout.{AreBegins, AreEnds, AreSizes}
 
 -- the groups end where they ended, and the further pieces behind
 pub AreEnds-append : (old new : ByGroup) (before xs : List Piece) → AreEnds old before
-    → ((g : Group) → bytes_of new g ≡ fold (end_with g) (bytes_of old g) xs) → AreEnds new (before ++ xs)
+    → ((g : Group) → bytes_of new g ≡ fold (end_with g) (bytes_of old g) xs)
+    → AreEnds new (before ++ xs)
 AreEnds-append old new before xs ends step g =
-    step g ∙ ap (λ end. fold (end_with g) end xs) (ends g) ∙ sym (fold-append (end_with g) 0 before xs)
+    step g ∙ ap (λ end. fold (end_with g) end xs) (ends g)
+    ∙ sym (fold-append (end_with g) 0 before xs)
 
 pub AreBegins-from_sizes : (sizes begins : ByGroup) (parts : Parts) → AreSizes sizes parts
     → begins.code ≡ 0 → begins.consts ≡ page * pages_of sizes.code
@@ -31,7 +34,8 @@ AreBegins-from_sizes sizes begins parts h code consts vars zeros Zeros =
     zeros ∙ (λ i. page * (pages_of (h Code i) + pages_of (h Consts i) + pages_of (h Vars i)))
 
 pub all_pages-from_sizes : (sizes : ByGroup) (parts : Parts) → AreSizes sizes parts
-    → pages_of sizes.code + pages_of sizes.consts + pages_of sizes.vars + pages_of sizes.zeros ≡ all_pages parts
+    → pages_of sizes.code + pages_of sizes.consts + pages_of sizes.vars + pages_of sizes.zeros
+    ≡ all_pages parts
 all_pages-from_sizes sizes parts h =
     λ i. pages_of (h Code i) + pages_of (h Consts i) + pages_of (h Vars i) + pages_of (h Zeros i)
 

@@ -23,7 +23,7 @@ use Rattle.link_model.specs.Layout.{is_got, is_slot, slots_of, target_at, with_s
 use Rattle.link_model.specs.Layout.{program_pieces, places_behind, places_from, places_of}
 use Rattle.link_layout.specs.Layout.{places_over}
 use Rattle.link_layout.specs.Pieces.{all_pieces, pieces_in}
-use Rattle.link_layout.specs.References.{refusal_among, refusal_for, refusal_of_leaf}
+use Rattle.link_layout.specs.inside.References.{refusal_among, refusal_for, refusal_of_leaf}
 use Rattle.link_layout.specs.Slots.{fixups_in, slots_with, slots_with_leaf}
 
 abbrev Rows : Type 0
@@ -64,7 +64,8 @@ abbrev landed_at : Reference → Target
 landed_at r = target_at r.landing
 
 row-slots : (leaf k : ℕ) (acc : List Target) (ys : List (Fixup × Landing))
-    → fold with_slot acc (map landed_at (filter got (map (reference_of leaf) (enumerate_from k ys))))
+    → fold with_slot acc
+    (map landed_at (filter got (map (reference_of leaf) (enumerate_from k ys))))
     ≡ fold slots_with acc ys
 row-slots leaf k acc [] = refl
 row-slots leaf k acc (y ∷ ys) =
@@ -84,7 +85,8 @@ row-slots leaf k acc (y ∷ ys) =
     go false there not_there = not_there
 
 rows-slots : (n : ℕ) (acc : List Target) (xs : Rows)
-    → fold with_slot acc (map landed_at (filter got (flat_map references_in (enumerate_from n (map part_with xs)))))
+    → fold with_slot acc
+    (map landed_at (filter got (flat_map references_in (enumerate_from n (map part_with xs)))))
     ≡ fold slots_with_leaf acc xs
 rows-slots n acc [] = refl
 rows-slots n acc (x ∷ xs) =
@@ -120,7 +122,8 @@ row_more slots (y ∷ ys) =
     omega (arith, row_more (slots_with slots y) ys, one_more slots y)
 
 pub few-slots : (slots : List Target) (leaves : List Entry) (landings : List (List Landing))
-    → length (fold slots_with_leaf slots (zip leaves landings)) ≤ length slots + sum_by length landings
+    → length (fold slots_with_leaf slots (zip leaves landings)) ≤ length slots + sum_by length
+    landings
 few-slots slots [] landings = omega arith
 few-slots slots (x ∷ xs) [] = omega arith
 few-slots slots (x ∷ xs) (y ∷ ys) =

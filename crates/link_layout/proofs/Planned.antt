@@ -25,7 +25,7 @@ use Rattle.link_model.specs.Plan.{unless_refused, unresolved}
 use Rattle.link_model.specs.Program.{Parts, landings_of}
 use Rattle.link_layout.specs.declared.program.Program.{Program}
 use Rattle.link_layout.specs.IsLaid.{IsLaid}
-use Rattle.link_layout.specs.Program.{IsProgramOf, Lays, meaning_in, parts_in, plan_in}
+use Rattle.link_layout.specs.Program.{IsProgramOf, Lays, program_meaning, parts_in, plan_in}
 
 -- a module has a row of landings for each leaf
 pub as_many : (m : Module) → IsModule m → length m.landings ≡ length m.leaves
@@ -51,17 +51,17 @@ first_of large start open_one = option_or large (option_or start open_one)
 
 abbrev plan_unless : Program → ℕ → ℕ → Option Refusal → Result Plan Refusal
 plan_unless p lo hi refusal =
-    unless_refused refusal (planned (parts_in p) (meaning_in p) (terms_with p.start.now lo hi))
+    unless_refused refusal (planned (parts_in p) (program_meaning p) (terms_with p.start.now lo hi))
 
 pub laid : (p : Program) (l : Placing)
-    → too_large (parts_in p) ≡ None → no_start (meaning_in p) p.start.now ≡ None
+    → too_large (parts_in p) ≡ None → no_start (program_meaning p) p.start.now ≡ None
     → unresolved (parts_in p) ≡ None
     → l.pages ≡ pages_in_all (parts_in p) → l.groups ≡ groups_of (parts_in p)
     → l.places ≡ places_of (parts_in p) → l.slots ≡ slots_of (parts_in p)
-    → l.entry ≡ entry_of (meaning_in p) p.start.now
+    → l.entry ≡ entry_of (program_meaning p) p.start.now
     → (lo hi : ℕ) → (plan : Plan) × (plan_in p lo hi ≡ Ok plan) × (l ≡ placing_of plan)
 laid p l small started bound pages groups places slots entry lo hi = (
-  planned (parts_in p) (meaning_in p) (terms_with p.start.now lo hi),
+  planned (parts_in p) (program_meaning p) (terms_with p.start.now lo hi),
   (λ i. plan_unless p lo hi (first_of (small i) (started i) (bound i))),
   (λ i. record {
     pages = pages i;
@@ -75,7 +75,8 @@ laid p l small started bound pages groups places slots entry lo hi = (
 -- ---- a module
 
 -- one name's meaning decides
-one_meaning : (parts : Parts) (meaning : Meaning) (start : Start) (entry : Option Target) (lo hi : ℕ)
+one_meaning : (parts : Parts) (meaning : Meaning) (start : Start) (entry : Option Target)
+    (lo hi : ℕ)
     → entry ≡ entry_of meaning start
     → plan_of_parts parts (λ name. entry) (terms_with start lo hi)
     ≡ plan_of_parts parts meaning (terms_with start lo hi)

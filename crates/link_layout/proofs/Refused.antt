@@ -7,7 +7,7 @@ use Rattle.omos_base.specs.declared.fault.Fault.TheVariants.{Refused, NoMemory}
 use Rattle.omos_model.specs.declared.fragment.Fixup.{Fixup}
 use Rattle.omos_model.specs.declared.mark.Landing.{Landing}
 use Rattle.omos_model.specs.declared.refusal.Refusal.{Refusal}
-use Rattle.link_layout.specs.References.{RefusesFor, refusal_in}
+use Rattle.link_layout.specs.inside.References.{RefusesFor, refusal_in}
 
 pub handed_on : (T U : Type 0) (e : Fault Refusal) (told head rest whole : Option Refusal)
     → RefusesFor {T = T} told (Err e) → head ≡ told → whole ≡ option_or head rest
@@ -25,6 +25,7 @@ refused_first T result x head rest whole h same is =
 -- a leaf's refusal is that of its lists
 pub refusal_in-same : (leaf : ℕ) (xs fixups : List Fixup) (ys landings : List Landing)
     → xs ≡ fixups → ys ≡ landings
-    → refusal_in leaf (enumerate_from 0 (zip fixups landings)) ≡ refusal_in leaf (enumerate_from 0 (zip xs ys))
+    → refusal_in leaf (enumerate_from 0 (zip fixups landings))
+    ≡ refusal_in leaf (enumerate_from 0 (zip xs ys))
 refusal_in-same leaf xs fixups ys landings e f =
     sym (λ i. refusal_in leaf (enumerate_from 0 (zip (e i) (f i))))

@@ -36,7 +36,8 @@ module _ {S A B : Type 0} {steps : S → Option A → S → Type 0} {v : A → B
 
 module _ {A B : Type 0} (ks : List A) (vs : List B) (s : Zip (Iter A) (Iter B))
     (first : iter_rest (zip_first s) ≡ ks) (second : iter_rest (zip_second s) ≡ vs)
-    (xs : List (Bor A × Bor B)) (t : Zip (Iter A) (Iter B)) (so_far : Yields (zips fronts fronts) s xs t)
+    (xs : List (Bor A × Bor B)) (t : Zip (Iter A) (Iter B))
+    (so_far : Yields (zips fronts fronts) s xs t)
     (r : Option (Bor A × Bor B)) (u : Zip (Iter A) (Iter B)) where
   pairs : YieldsList (zips fronts fronts) (λ p. (p.0.now, p.1.now)) s (zip ks vs)
   pairs = YieldsList-from_zip (YieldsList-from_slice ks first) (YieldsList-from_slice vs second)
@@ -59,13 +60,15 @@ module _ {A B : Type 0} (ks : List A) (vs : List B) (s : Numbered A B)
     (xs : List (ℕ × (Bor A × Bor B))) (t : Numbered A B)
     (so_far : Yields (enumerate_steps (zips fronts fronts)) s xs t)
     (r : Option (ℕ × (Bor A × Bor B))) (u : Numbered A B) where
-  numbered : YieldsList (enumerate_steps (zips fronts fronts)) (λ p. (p.0, (p.1.0.now, p.1.1.now))) s
+  numbered : YieldsList (enumerate_steps (zips fronts fronts)) (λ p. (p.0, (p.1.0.now, p.1.1.now)))
+      s
       (enumerate_from 0 (zip ks vs))
   numbered =
       YieldsList-from_enumerate
       (YieldsList-from_zip (YieldsList-from_slice ks first) (YieldsList-from_slice vs second)) none
 
-  pub numbered-turn : (p : ℕ × (Bor A × Bor B)) → r ≡ Some p → enumerate_steps (zips fronts fronts) t r u
+  pub numbered-turn : (p : ℕ × (Bor A × Bor B)) → r ≡ Some p
+      → enumerate_steps (zips fronts fronts) t r u
       → drop (length xs) (enumerate_from 0 (zip ks vs))
       ≡ (p.0, (p.1.0.now, p.1.1.now)) ∷ drop (length xs + 1) (enumerate_from 0 (zip ks vs))
   numbered-turn = turn_rest numbered xs t so_far r u

@@ -1,5 +1,6 @@
 -- Where pieces stand, one more at a time.
-use Rattle.std.proofs.Common.{◌≡◌, ℕ, ◌+◌, ◌<◌, List, [], ◌∷◌, ◌++◌, length, get_or, take, sym, ap, ◌∙◌}
+use Rattle.std.proofs.Common.{◌≡◌, ℕ, ◌+◌, ◌<◌, List, [], ◌∷◌, ◌++◌, length, get_or, take, sym, ap}
+use Rattle.std.proofs.Common.{◌∙◌}
 use Rattle.std.proofs.lemmas.List.{append-nil, append_assoc, take_more}
 use Rattle.std.proofs.lemmas.List.Concat.{flat_map-append}
 use Rattle.omos_model.specs.declared.entry.Entry.{Entry}
@@ -22,7 +23,8 @@ pub places_behind-push : (parts : Parts) (before ps : List Piece) (p : Piece)
 places_behind-push parts before [] p = ap (λ b. place_of parts b p ∷ []) (sym (append-nil before))
 places_behind-push parts before (q ∷ ps) p =
     ap (λ r. place_of parts before q ∷ r) (places_behind-push parts (before ++ q ∷ []) ps p)
-    ∙ ap (λ b. place_of parts before q ∷ (places_behind parts (before ++ q ∷ []) ps ++ place_of parts b p ∷ []))
+    ∙ ap (λ b. place_of parts before q
+    ∷ (places_behind parts (before ++ q ∷ []) ps ++ place_of parts b p ∷ []))
     (append_assoc before (q ∷ []) ps)
 
 -- a piece that begins where its group ends stands at its place
@@ -35,11 +37,13 @@ placed parts before begins ends p begin starts are is =
 pub all_pieces-push : (xs : List Entry) (x : Entry)
     → all_pieces (xs ++ x ∷ []) ≡ all_pieces xs ++ pieces_in x
 all_pieces-push xs x =
-    flat_map-append pieces_in xs (x ∷ []) ∙ ap (λ ps. all_pieces xs ++ ps) (append-nil (pieces_in x))
+    flat_map-append pieces_in xs (x ∷ [])
+    ∙ ap (λ ps. all_pieces xs ++ ps) (append-nil (pieces_in x))
 
 pub places_over-push : (parts : Parts) (before : List Piece) (xs : List Entry) (x : Entry)
     → places_over parts before (xs ++ x ∷ [])
-    ≡ places_over parts before xs ++ places_behind parts (before ++ all_pieces xs) (pieces_in x) ∷ []
+    ≡ places_over parts before xs ++ places_behind parts (before ++ all_pieces xs) (pieces_in x)
+    ∷ []
 places_over-push parts before [] x =
     ap (λ b. places_behind parts b (pieces_in x) ∷ []) (sym (append-nil before))
 places_over-push parts before (y ∷ xs) x =

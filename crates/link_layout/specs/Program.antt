@@ -22,12 +22,12 @@ pub record IsFew (p : Program) : Type 0 where
   pub references : sum_by length p.landings.now ≤ max_sum
 
 -- what the start's name is defined as
-abbrev pub meaning_in : Program → Meaning
-meaning_in p name = p.entry
+abbrev pub program_meaning : Program → Meaning
+program_meaning p name = p.entry
 
 -- its plan, where it may stand in this range
 abbrev pub plan_in : Program → ℕ → ℕ → Result Plan Refusal
-plan_in p lo hi = plan_of_parts (parts_in p) (meaning_in p) (terms_with p.start.now lo hi)
+plan_in p lo hi = plan_of_parts (parts_in p) (program_meaning p) (terms_with p.start.now lo hi)
 
 -- the layout is that of the program's plan, whatever the range; or it has none, for this reason
 abbrev pub Lays : Result Placing (Fault Refusal) → Program → Type 0

@@ -5,11 +5,11 @@ ghost use Rattle.omos_model.specs.declared.fragment.Group.{Group};
 ghost use Rattle.link_model.specs.Groups.{bytes_of, groups_of};
 ghost use Rattle.link_model.specs.Layout as model;
 ghost use Rattle.link_model.specs.Plan.{entry_of, no_start, unresolved};
-ghost use Rattle.link_layout.specs.ByGroup.{AreAtMost};
+ghost use Rattle.link_layout.specs.inside.ByGroup.{AreAtMost};
 ghost use Rattle.link_layout.specs.IsLaid.{IsLaid};
 ghost use Rattle.link_layout.specs.Layout.{AreSizes};
-ghost use Rattle.link_layout.specs.Program.{IsFew, Lays, meaning_in, parts_in};
-ghost use Rattle.link_layout.specs.References.{RefusesFor};
+ghost use Rattle.link_layout.specs.Program.{IsFew, Lays, program_meaning, parts_in};
+ghost use Rattle.link_layout.specs.inside.References.{RefusesFor};
 
 use crate::pieces::ends_of;
 use crate::places::places_of;
@@ -42,9 +42,9 @@ fn measure(alloc: Global, seed: Seed, program: &Program) -> Result<(Row<Target>,
 
 /// What the start is, if the program has one. It refuses a start whose name isn't defined: L10.
 fn start_of(program: &Program) -> Result<Option<Target>, Fault<Refusal>>
-    ensures refusal { RefusesFor (no_start (meaning_in program.now) program.now.start.now) result }
+    ensures refusal { RefusesFor (no_start (program_meaning program.now) program.now.start.now) result }
     ensures entry { IfOk result
-        (λ entry. entry ≡ entry_of (meaning_in program.now) program.now.start.now) }
+        (λ entry. entry ≡ entry_of (program_meaning program.now) program.now.start.now) }
 {
     let Start::Named(name) = program.start else {
         return Ok(None);

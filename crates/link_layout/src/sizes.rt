@@ -5,7 +5,7 @@ ghost use Rattle.omos_model.specs.declared.fragment.Group.{Group};
 ghost use Rattle.link_model.specs.Layout.{all_pages, end_with_slots, program_pieces, slots_of};
 ghost use Rattle.link_model.specs.Program.{Parts};
 ghost use Rattle.link_model.specs.Groups.{bytes_of, groups_of};
-ghost use Rattle.link_layout.specs.ByGroup.{AreAtMost};
+ghost use Rattle.link_layout.specs.inside.ByGroup.{AreAtMost};
 ghost use Rattle.link_layout.specs.Layout.{AreBegins, AreEnds, AreSizes};
 
 use crate::offsets::{PAGE, aligned, pages_of};

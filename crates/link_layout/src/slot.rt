@@ -70,7 +70,7 @@ pub fn target_at(landing: &Landing) -> Target
 }
 
 impl PartialEq for Slot {
-    ghost use Rattle.link_layout.specs.Targets.{same_target-partial};
+    ghost use Rattle.link_layout.specs.inside.Targets.{same_target-partial};
 
     ghost eq = { same_target };
 
@@ -82,14 +82,14 @@ impl PartialEq for Slot {
 }
 
 impl Eq for Slot {
-    ghost use Rattle.link_layout.specs.Targets.{same_target-equivalence};
+    ghost use Rattle.link_layout.specs.inside.Targets.{same_target-equivalence};
 
     ghost laws = { same_target-equivalence };
 }
 
 impl Hash for Slot {
     ghost use Rattle.link_layout.specs.Slots.{target_writes};
-    ghost use Rattle.link_layout.specs.Targets.{alike};
+    ghost use Rattle.link_layout.specs.inside.Targets.{alike};
 
     ghost hash_input = { target_writes };
 

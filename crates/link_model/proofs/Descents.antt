@@ -1,6 +1,7 @@
 -- What the lists of all references have is what descent finds for each.
 use Rattle.std.proofs.Common.{◌≡◌, ℕ, zero, suc, ◌+◌, ◌==◌, Bool, true, false, List, [], ◌∷◌, ◌++◌}
-use Rattle.std.proofs.Common.{Option, Some, None, Ok, Err, refl, sym, ap, ◌∙◌, subst, cond, map, arith}
+use Rattle.std.proofs.Common.{Option, Some, None, Ok, Err, refl, sym, ap, ◌∙◌, subst, cond, map}
+use Rattle.std.proofs.Common.{arith}
 use Rattle.std.specs.Prelude.{IsTrue, ◌↔◌, ◌||◌, Result, slice_get, unwrap_or}
 use Rattle.std.specs.List.{AllByRecursion, IsDistinct, list_any, zip, enumerate_from, flat_map}
 use Rattle.std.specs.Option.{option_map, option_or}
@@ -9,7 +10,8 @@ use Rattle.omos_model.specs.Names.{Name, same_name}
 use Rattle.omos_model.specs.Numbers.{numbers_from}
 use Rattle.omos_model.specs.Term.{Term, leaf_numbers}
 use Rattle.omos_model.specs.Definition.{Meaning, definition}
-use Rattle.omos_model.specs.State.{state, states, in_row, in_rows, is_open_as, is_open_in, landed, landing}
+use Rattle.omos_model.specs.State.{state, states, in_row, in_rows, is_open_as, is_open_in, landed}
+use Rattle.omos_model.specs.State.{landing}
 use Rattle.omos_model.specs.Expansion.{Visited, expansion}
 use Rattle.omos_model.specs.declared.fragment.Fixup.{Fixup}
 use Rattle.omos_model.specs.declared.mark.Landing.{Landing}
@@ -54,7 +56,8 @@ none_below : (rows : List MarkRow) (start count below more k : ℕ) → start �
 none_below [] start count below more k e h = refl
 none_below (r ∷ rows) start count below more k e h =
     let parts = head_number r rows start count h in
-    let apart : (below == r.number) ≡ false = other_number below r.number (λ same. omega (arith, e, same, parts.1)) in
+    let apart : (below == r.number) ≡ false =
+    other_number below r.number (λ same. omega (arith, e, same, parts.1)) in
     let next : start + 1 ≡ below + 1 + (more + 1) = omega (arith, e) in
     rw apart (none_below rows (start + 1) parts.0 below (more + 1) k next parts.2)
 
@@ -80,7 +83,8 @@ by_number : (f : Mark → Landing) (rows : List MarkRow) (start count i k : ℕ)
 by_number f [] start count i k h = refl
 by_number f (r ∷ rows) start count zero k h =
     let parts = head_number r rows start count h in
-    let same : (start + 0 == r.number) ≡ true = same_number (start + 0) r.number (omega (arith, parts.1)) in
+    let same : (start + 0 == r.number) ≡ true =
+    same_number (start + 0) r.number (omega (arith, parts.1)) in
     let below : start + 1 ≡ (start + 0) + 1 + 0 = omega arith in
     rw same
     (slice_get-map f r.marks k
@@ -116,7 +120,8 @@ pub module_landings_law : ModuleLandingsLaw
 module_landings_law m h t v is leaf k =
     let e = h.2 in
     let same : h.0 ≡ t = same_term h.0 t h.1 v (expansion m.footprint m.path) e.expanded is in
-    ap (λ rows. item_at rows leaf k) (e.landings ∙ ap (λ (u : Term). map (landings_of u) (states u)) same)
+    ap (λ rows. item_at rows leaf k)
+    (e.landings ∙ ap (λ (u : Term). map (landings_of u) (states u)) same)
     ∙ numbered t v.leaves (leaves_law m.footprint m.path t v is) leaf k
 
 landings-parts : (t : Term) (rows : List MarkRow)
@@ -222,7 +227,8 @@ row_opens x (m ∷ marks) zero h =
     rw (ap (is_open_as x) is ∙ opens_as x) refl
 row_opens x (m ∷ marks) (suc k) h = go (is_open_as x m) (row_opens x marks k h)
   where
-    go : (b : Bool) → list_any (is_open_as x) marks ≡ true → (b || list_any (is_open_as x) marks) ≡ true
+    go : (b : Bool) → list_any (is_open_as x) marks ≡ true
+        → (b || list_any (is_open_as x) marks) ≡ true
     go true i = refl
     go false i = i
 
@@ -287,7 +293,8 @@ open_law t apart x = (to, from)
   where
     to : is_open_in (states t) x ≡ true → IsOpenAt t x
     to h =
-        let found = found_open x (states t) (subst (IsDistinct ◌==◌) (sym (states-numbers t)) apart) h in
+        let found =
+        found_open x (states t) (subst (IsDistinct ◌==◌) (sym (states-numbers t)) apart) h in
         (found.0, found.1, state-in_rows t found.0 found.1 ∙ found.2)
 
     from : IsOpenAt t x → is_open_in (states t) x ≡ true

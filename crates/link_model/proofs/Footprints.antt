@@ -45,7 +45,8 @@ all_same a b (p ∷ ps) n h = go (look_up a p) refl n h (few a ps) (all_same a b
         → length (cons_option o (filter_map (look_up a) ps)) ≡ length (p ∷ ps)
         → HasEntries b (cons_option o (filter_map (look_up a) ps))
         → length (filter_map (look_up a) ps) ≤ length ps
-        → (length (filter_map (look_up a) ps) ≡ length ps → HasEntries b (filter_map (look_up a) ps) → AllByRecursion (λ q. look_up a q ≡ look_up b q) ps)
+        → (length (filter_map (look_up a) ps) ≡ length ps → HasEntries b (filter_map (look_up a) ps)
+        → AllByRecursion (λ q. look_up a q ≡ look_up b q) ps)
         → (look_up a p ≡ look_up b p) × AllByRecursion (λ q. look_up a q ≡ look_up b q) ps
     go None e m k l i = absurd (omega arith)
     go (Some s) e m k l i = (
@@ -79,10 +80,12 @@ first_among (q ∷ qs) p h =
 -- ---- the law
 
 from_same : (a b : Space) (path : Name) (r : Term × Visit) (y : Visited Term)
-    → Same (source a) (source b) first_visit (Ok r) y → AllByRecursion (λ p. look_up a p ≡ look_up b p) r.1.read
+    → Same (source a) (source b) first_visit (Ok r) y
+    → AllByRecursion (λ p. look_up a p ≡ look_up b p) r.1.read
     → y ≡ Ok r
 from_same a b path r y h k =
-    h.1 (λ q e. ap (option_map (λ (s : Stamped). source_of s.entry)) (same_among a b r.1.read k q e))
+    h.1 (λ q e. ap (option_map (λ (s : Stamped). source_of s.entry))
+    (same_among a b r.1.read k q e))
 
 -- where the expansion gave this and its entries stand in b
 same_link : (a b : Space) (path : Name) (entries : List Stamped) (t : Term) (v : Visit)
@@ -90,18 +93,21 @@ same_link : (a b : Space) (path : Name) (entries : List Stamped) (t : Term) (v :
     → SameLink path a b
 same_link a b path entries t v is listed has =
     let law = footprint_law a path t v entries is listed in
-    let made : Some (filter_map (look_up a) v.read) ≡ Some entries = sym (ap (footprint_of a) is) ∙ listed in
+    let made : Some (filter_map (look_up a) v.read) ≡ Some entries = sym (ap (footprint_of a) is)
+    ∙ listed in
     let same : filter_map (look_up a) v.read ≡ entries = cc in
     let count : length (filter_map (look_up a) v.read) ≡ length v.read =
     ap length same ∙ sym (length-map entries (λ (s : Stamped). s.path)) ∙ ap length law.0 in
     let all = all_same a b v.read count (subst (HasEntries b) (sym same) has) in
     let other : expansion b path ≡ Ok (t, v) =
     from_same a b path (t, v) (expansion b path)
-    (subst (λ (x : Visited Term). Same (source a) (source b) first_visit x (expansion b path)) is (expand_same (source a) (source b) 32 [] false path path first_visit)) all in
+    (subst (λ (x : Visited Term). Same (source a) (source b) first_visit x (expansion b path)) is
+    (expand_same (source a) (source b) 32 [] false path path first_visit)) all in
     let expanded : expansion a path ≡ expansion b path = is ∙ sym other in
     let entry = same_among a b v.read all path (first_among v.read path law.1) in
     let planned : plan_of a path ≡ plan_of b path =
-    λ i. plan_of_expansion (expanded i) (terms_at (option_map (λ (s : Stamped). terms_of s.entry) (entry i))) in
+    λ i. plan_of_expansion (expanded i)
+    (terms_at (option_map (λ (s : Stamped). terms_of s.entry) (entry i))) in
     record {
       expanded = expanded;
       entry = entry;
@@ -151,5 +157,6 @@ own_frame_law ns path entries listed = go (expansion ns path) refl listed
         → SameLink path ns entries
     go (Ok r) e k =
         let law = footprint_law ns path r.0 r.1 entries e listed in
-        same_link ns entries path entries r.0 r.1 e listed (own_entries entries (subst (IsDistinct same_name) (sym law.0) law.2))
+        same_link ns entries path entries r.0 r.1 e listed
+        (own_entries entries (subst (IsDistinct same_name) (sym law.0) law.2))
     go (Err x) e k = cc

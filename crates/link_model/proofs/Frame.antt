@@ -27,7 +27,8 @@ abbrev pub Agree : (Name → Option Source) → (Name → Option Source) → Vis
 Agree a b w = (q : Name) → is_among w.read q ≡ true → a q ≡ b q
 
 -- a part that was visited from v on is the same where both have the same under what it read
-abbrev pub Same : (Name → Option Source) → (Name → Option Source) → {A : Type 0} → Visit → Visited A → Visited A → Type 0
+abbrev pub Same : (Name → Option Source) → (Name → Option Source) → {A : Type 0} → Visit → Visited A
+    → Visited A → Type 0
 Same a b v (Ok r) y = Grows v r.1 × (Agree a b r.1 → y ≡ Ok r)
 Same a b v (Err x) y = Unit {0}
 
@@ -75,8 +76,10 @@ module _ (a b : Name → Option Source) where
   begin_same at v = go (nat_lt v.nodes 4096)
     where
       go : (c : Bool) → Same a b v
-          (cond c (Ok (here at v, record v { node = v.node + 1; nodes = v.nodes + 1 })) (Err (TooLarge (here at v))))
-          (cond c (Ok (here at v, record v { node = v.node + 1; nodes = v.nodes + 1 })) (Err (TooLarge (here at v))))
+          (cond c (Ok (here at v, record v { node = v.node + 1; nodes = v.nodes + 1 }))
+          (Err (TooLarge (here at v))))
+          (cond c (Ok (here at v, record v { node = v.node + 1; nodes = v.nodes + 1 }))
+          (Err (TooLarge (here at v))))
       go true = (λ q e. e, λ agree. refl)
       go false = tt
 
@@ -93,29 +96,41 @@ module _ (a b : Name → Option Source) where
       → ((v : Visit) → Same a b v (l v) (k v)) → ((v : Visit) → Same a b v (r v) (s v))
       → (v : Visit) → Same a b v (both join l r v) (both join k s v)
   both_same join l k r s hl hr v =
-      then_same v (l v) (k v) (λ t w. and_then (r w) (λ u x. Ok (join t u, x))) (λ t w. and_then (s w) (λ u x. Ok (join t u, x))) (hl v)
-      (λ t w. then_same w (r w) (s w) (λ u x. Ok (join t u, x)) (λ u x. Ok (join t u, x)) (hr w) (λ u x. (λ q e. e, λ agree. refl)))
+      then_same v (l v) (k v) (λ t w. and_then (r w) (λ u x. Ok (join t u, x)))
+      (λ t w. and_then (s w) (λ u x. Ok (join t u, x))) (hl v)
+      (λ t w. then_same w (r w) (s w) (λ u x. Ok (join t u, x)) (λ u x. Ok (join t u, x)) (hr w)
+      (λ u x. (λ q e. e, λ agree. refl)))
 
   one_same : (join : Term → Term) (x y : Visitor Term) → ((v : Visit) → Same a b v (x v) (y v))
       → (v : Visit) → Same a b v (one join x v) (one join y v)
   one_same join x y h v =
-      then_same v (x v) (y v) (λ t w. Ok (join t, w)) (λ t w. Ok (join t, w)) (h v) (λ t w. (λ q e. e, λ agree. refl))
+      then_same v (x v) (y v) (λ t w. Ok (join t, w)) (λ t w. Ok (join t, w)) (h v)
+      (λ t w. (λ q e. e, λ agree. refl))
 
   visit_same : (at : Name) (path other : Name → Visitor Term)
       → ((p : Name) (v : Visit) → Same a b v (path p v) (other p v)) → (x : Tree) (v : Visit)
       → Same a b v (visit at path x v) (visit at other x v)
   visit_same at path other h (tree.Path p) v = h p v
   visit_same at path other h (tree.Merge l r) v =
-      then_same v (begin at v) (begin at v) (λ s. both (Merge s) (visit at path l) (visit at path r)) (λ s. both (Merge s) (visit at other l) (visit at other r)) (begin_same at v)
-      (λ s. both_same (Merge s) (visit at path l) (visit at other l) (visit at path r) (visit at other r) (visit_same at path other h l) (visit_same at path other h r))
+      then_same v (begin at v) (begin at v)
+      (λ s. both (Merge s) (visit at path l) (visit at path r))
+      (λ s. both (Merge s) (visit at other l) (visit at other r)) (begin_same at v)
+      (λ s. both_same (Merge s) (visit at path l) (visit at other l) (visit at path r)
+      (visit at other r) (visit_same at path other h l) (visit_same at path other h r))
   visit_same at path other h (tree.More l r) v =
-      both_same (Merge (here at v)) (visit at path l) (visit at other l) (visit at path r) (visit at other r) (visit_same at path other h l) (visit_same at path other h r) v
+      both_same (Merge (here at v)) (visit at path l) (visit at other l) (visit at path r)
+      (visit at other r) (visit_same at path other h l) (visit_same at path other h r) v
   visit_same at path other h (tree.Override l r) v =
-      then_same v (begin at v) (begin at v) (λ s. both (Override s) (visit at path l) (visit at path r)) (λ s. both (Override s) (visit at other l) (visit at other r)) (begin_same at v)
-      (λ s. both_same (Override s) (visit at path l) (visit at other l) (visit at path r) (visit at other r) (visit_same at path other h l) (visit_same at path other h r))
+      then_same v (begin at v) (begin at v)
+      (λ s. both (Override s) (visit at path l) (visit at path r))
+      (λ s. both (Override s) (visit at other l) (visit at other r)) (begin_same at v)
+      (λ s. both_same (Override s) (visit at path l) (visit at other l) (visit at path r)
+      (visit at other r) (visit_same at path other h l) (visit_same at path other h r))
   visit_same at path other h (tree.Apply op x) v =
-      then_same v (begin at v) (begin at v) (λ s. one (Apply s op) (visit at path x)) (λ s. one (Apply s op) (visit at other x)) (begin_same at v)
-      (λ s. one_same (Apply s op) (visit at path x) (visit at other x) (visit_same at path other h x))
+      then_same v (begin at v) (begin at v) (λ s. one (Apply s op) (visit at path x))
+      (λ s. one (Apply s op) (visit at other x)) (begin_same at v)
+      (λ s. one_same (Apply s op) (visit at path x) (visit at other x)
+      (visit_same at path other h x))
 
   begin_path_same : (counts : Bool) (at : Name) (v : Visit)
       → Same a b v (begin_path counts at v) (begin_path counts at v)
@@ -125,13 +140,18 @@ module _ (a b : Name → Option Source) where
   nested_same : (x y : Visitor Term) → ((v : Visit) → Same a b v (x v) (y v)) → (v : Visit)
       → Same a b v (nested x v) (nested y v)
   nested_same x y h v =
-      then_same (record v { node = 0 }) (x (record v { node = 0 })) (y (record v { node = 0 })) (λ t w. Ok (t, record w { node = v.node })) (λ t w. Ok (t, record w { node = v.node })) (h (record v { node = 0 })) (λ t w. (λ q e. e, λ agree. refl))
+      then_same (record v { node = 0 }) (x (record v { node = 0 })) (y (record v { node = 0 }))
+      (λ t w. Ok (t, record w { node = v.node })) (λ t w. Ok (t, record w { node = v.node }))
+      (h (record v { node = 0 })) (λ t w. (λ q e. e, λ agree. refl))
 
   cycle_same : (above : List Name) (at p : Name) (x y : Visitor Term) (v w : Visit)
-      → Same a b w (x v) (y v) → Same a b w (unless_cycle above at p x v) (unless_cycle above at p y v)
+      → Same a b w (x v) (y v)
+      → Same a b w (unless_cycle above at p x v) (unless_cycle above at p y v)
   cycle_same above at p x y v w h = go (is_among above p)
     where
-      go : (c : Bool) → Same a b w (cond c (Err (Cycle (here at v) p)) (x v)) (cond c (Err (Cycle (here at v) p)) (y v))
+      go : (c : Bool)
+          → Same a b w (cond c (Err (Cycle (here at v) p)) (x v))
+          (cond c (Err (Cycle (here at v) p)) (y v))
       go true = tt
       go false = h
 
@@ -149,20 +169,27 @@ module _ (a b : Name → Option Source) where
       → Same a b (add_read p v) (entered f counts at p o v) (entered g counts at p o v)
   entered_same f g counts at p v h None = tt
   entered_same f g counts at p v h (Some (Object k)) =
-      then_same (add_read p v) (begin_path counts at (add_read p v)) (begin_path counts at (add_read p v)) (leaf k) (leaf k) (begin_path_same counts at (add_read p v)) (leaf_same k)
+      then_same (add_read p v) (begin_path counts at (add_read p v))
+      (begin_path counts at (add_read p v)) (leaf k) (leaf k)
+      (begin_path_same counts at (add_read p v)) (leaf_same k)
   entered_same f g counts at p v h (Some (Blueprint x)) = h x
 
   opened_same : (above : List Name) (inner other : Name → Visitor Term)
       → ((q : Name) (w : Visit) → Same a b w (inner q w) (other q w))
       → (counts : Bool) (at p : Name) (v : Visit) (x : Tree)
-      → Same a b (add_read p v) (unless_cycle above at p (opened inner counts at p x) v) (unless_cycle above at p (opened other counts at p x) v)
+      → Same a b (add_read p v) (unless_cycle above at p (opened inner counts at p x) v)
+      (unless_cycle above at p (opened other counts at p x) v)
   opened_same above inner other h counts at p v x =
-      cycle_same above at p (opened inner counts at p x) (opened other counts at p x) v (add_read p v)
-      (then_same (add_read p v) (begin_path counts at (add_read p v)) (begin_path counts at (add_read p v)) (λ s. nested (visit p inner x)) (λ s. nested (visit p other x)) (begin_path_same counts at (add_read p v))
+      cycle_same above at p (opened inner counts at p x) (opened other counts at p x) v
+      (add_read p v)
+      (then_same (add_read p v) (begin_path counts at (add_read p v))
+      (begin_path counts at (add_read p v)) (λ s. nested (visit p inner x))
+      (λ s. nested (visit p other x)) (begin_path_same counts at (add_read p v))
       (λ s. nested_same (visit p inner x) (visit p other x) (visit_same p inner other h x)))
 
   deep_same : (above : List Name) (at p : Name) (v : Visit)
-      → Same a b (add_read p v) (unless_cycle above at p (too_deep at p) v) (unless_cycle above at p (too_deep at p) v)
+      → Same a b (add_read p v) (unless_cycle above at p (too_deep at p) v)
+      (unless_cycle above at p (too_deep at p) v)
   deep_same above at p v = cycle_same above at p (too_deep at p) (too_deep at p) v (add_read p v) tt
 
   pub expand_same : (room : ℕ) (above : List Name) (counts : Bool) (at p : Name) (v : Visit)
@@ -178,4 +205,6 @@ module _ (a b : Name → Option Source) where
       let f = λ (x : Tree). unless_cycle above at p (opened inner counts at p x) in
       let g = λ (x : Tree). unless_cycle above at p (opened other counts at p x) in
       read_same p v (a p) refl (entered f counts at p (a p) v) (λ o. entered g counts at p o v)
-      (entered_same f g counts at p v (opened_same above inner other (expand_same room (above ++ p ∷ []) true p) counts at p v) (a p))
+      (entered_same f g counts at p v
+      (opened_same above inner other (expand_same room (above ++ p ∷ []) true p) counts at p v)
+      (a p))

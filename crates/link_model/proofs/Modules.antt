@@ -63,7 +63,8 @@ parts-same t (r ∷ rows) = ap (λ (ps : Parts). part_of t r ∷ ps) (parts-same
 
 start-same : (u w : Meaning) → ((n : Name) → u n ≡ w n) → (s : Start)
     → (no_start u s ≡ no_start w s) × (entry_of u s ≡ entry_of w s)
-start-same u w h (Named n) = (ap (λ (o : Option Target). cond (is_some o) None (Some (NoStart n))) (h n), h n)
+start-same u w h (Named n) =
+    (ap (λ (o : Option Target). cond (is_some o) None (Some (NoStart n))) (h n), h n)
 start-same u w h NoEntry = (refl, refl)
 
 -- a plan depends on what each name means, and no more
@@ -92,9 +93,12 @@ own_plan_law m h =
     let terms = terms_of_module m in
     let parts : parts_of_term t ≡ parts_of_module m =
     parts-same t (states t)
-    ∙ ap (λ (es : List Entry). map part_with (zip es (map (landings_of t) (states t)))) (sym e.leaves)
+    ∙ ap (λ (es : List Entry). map part_with (zip es (map (landings_of t) (states t))))
+    (sym e.leaves)
     ∙ ap (λ (ls : List (List Landing)). map part_with (zip m.leaves ls)) (sym e.landings) in
-    ap (λ x. plan_of_expansion x (terms_at (option_map (λ (s : Stamped). terms_of s.entry) (look_up m.footprint m.path)))) e.expanded
+    ap (λ x. plan_of_expansion x
+    (terms_at (option_map (λ (s : Stamped). terms_of s.entry) (look_up m.footprint m.path))))
+    e.expanded
     ∙ ap (λ x. plan_of_term (first_refusal t) t (terms_at x)) e.terms
     ∙ ap (λ x. plan_of_term x t terms) e.unrefused
     ∙ ap (λ x. plan_of_parts x (definition t) terms) parts

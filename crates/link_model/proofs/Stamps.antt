@@ -1,6 +1,7 @@
 -- A stamp says which publish an entry came by.
 use Rattle.std.proofs.Common.{◌≡◌, ℕ, ◌+◌, ◌-◌, Bool, true, false, List, [], ◌∷◌, ◌++◌}
-use Rattle.std.proofs.Common.{Ok, Err, Option, Some, None, refl, sym, ap, ◌∙◌, subst, cond, fold, length, take}
+use Rattle.std.proofs.Common.{Ok, Err, Option, Some, None, refl, sym, ap, ◌∙◌, subst, cond, fold}
+use Rattle.std.proofs.Common.{length, take}
 use Rattle.std.proofs.Common.{drop, append_assoc, arith}
 use Rattle.std.specs.Prelude.{slice_get}
 use Rattle.std.specs.List.{filter_map, cons_option, AllByRecursion}
@@ -110,7 +111,8 @@ stamped_same puts ns s all put h = go (look_up ns s.path) refl h
         ap Some (same_put puts t s (look_up-all (IsPut puts) ns s.path t all e) put same)
 
 current_entries : (puts : Puts) (ns : Space) (entries : List Stamped)
-    → AllByRecursion (IsPut puts) ns → AllByRecursion (IsPut puts) entries → IsCurrent ns entries → HasEntries ns entries
+    → AllByRecursion (IsPut puts) ns → AllByRecursion (IsPut puts) entries → IsCurrent ns entries
+    → HasEntries ns entries
 current_entries puts ns [] all h k = tt
 current_entries puts ns (s ∷ ss) all h k =
     (stamped_same puts ns s all h.0 k.0, current_entries puts ns ss all h.1 k.1)

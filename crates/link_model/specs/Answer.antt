@@ -10,6 +10,7 @@ abbrev pub answer_of_plan : Result Plan Refusal → ℕ → Result (List ℕ) Re
 answer_of_plan (Ok plan) base = image_bytes plan base
 answer_of_plan (Err x) base = Err x
 
--- what a link of a path at a base gives on a version of the namespace: the image, or the first refusal
+-- what a link of a path at a base gives on a version of the namespace: the image, or the first
+-- refusal
 abbrev pub answer : Space → Name → ℕ → Result (List ℕ) Refusal
 answer ns path base = answer_of_plan (plan_of ns path) base

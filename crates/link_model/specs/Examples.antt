@@ -7,7 +7,8 @@ use Rattle.omos_model.specs.declared.fragment.Fixup.{Fixup}
 use Rattle.omos_model.specs.declared.fragment.Group.{Group}
 use Rattle.omos_model.specs.declared.fragment.Group.TheVariants.{Code, Vars, Zeros}
 use Rattle.omos_model.specs.declared.fragment.Kind.{Kind}
-use Rattle.omos_model.specs.declared.fragment.Kind.TheVariants.{Abs64, Pc32, Abs32, Abs32S, RexGotPcRelX}
+use Rattle.omos_model.specs.declared.fragment.Kind.TheVariants.{Abs64, Pc32, Abs32, Abs32S}
+use Rattle.omos_model.specs.declared.fragment.Kind.TheVariants.{RexGotPcRelX}
 use Rattle.omos_model.specs.declared.fragment.Piece.{Piece}
 use Rattle.omos_model.specs.declared.entry.Start.TheVariants.{Named}
 use Rattle.omos_model.specs.declared.mark.Landing.{Landing}
@@ -73,7 +74,8 @@ bytes_at p x =
     byte_of p 0x400000 x ∷ byte_of p 0x400000 (x + 1) ∷ byte_of p 0x400000 (x + 2)
     ∷ byte_of p 0x400000 (x + 3) ∷ []
 
--- 32 bytes of code and 16 of variables, `x` and `y`, of which the code loads the addresses of x, y and x
+-- 32 bytes of code and 16 of variables, `x` and `y`, of which the code loads the addresses of x, y
+-- and x
 abbrev x_landing : Landing
 x_landing = On (Inside 0 1 0)
 
@@ -83,7 +85,8 @@ y_landing = On (Inside 0 1 8)
 abbrev two_slots : Parts
 two_slots =
     program (piece Code 16 32 (replicate 32 0) ∷ piece Vars 8 16 (replicate 16 0) ∷ [])
-    (fixup RexGotPcRelX 3 minus_four (name (codes "x")) ∷ fixup RexGotPcRelX 10 minus_four (name (codes "y"))
+    (fixup RexGotPcRelX 3 minus_four (name (codes "x")) ∷ fixup RexGotPcRelX 10 minus_four
+    (name (codes "y"))
     ∷ fixup RexGotPcRelX 17 minus_four (name (codes "x")) ∷ [])
     (x_landing ∷ y_landing ∷ x_landing ∷ [])
 
@@ -138,7 +141,8 @@ pub record PlanExamples : Type 0 where
   pub behind : bytes_at (plan jump) 4 ≡ 0xFF ∷ 0 ∷ 0 ∷ 0 ∷ []
   pub pages : file_pages (plan jump) ≡ 1
   -- a weak reference that is bound to nothing has the value 0
-  pub weak_taken : plan_of_parts (calling Pc32 1 weak) start_meaning named ≡ Ok (plan (calling Pc32 1 weak))
+  pub weak_taken : plan_of_parts (calling Pc32 1 weak) start_meaning named
+      ≡ Ok (plan (calling Pc32 1 weak))
   pub weak_field : bytes_at (plan (calling Pc32 1 weak)) 1 ≡ 0xFB ∷ 0xFF ∷ 0xBF ∷ 0xFF ∷ []
   pub unresolved : plan_of_parts (calling Pc32 1 (name (codes "malloc"))) start_meaning named
       ≡ Err (refused.Unresolved 0 0 (codes "malloc"))

@@ -8,7 +8,8 @@ use Rattle.omos_model.specs.declared.fragment.Kind.TheVariants.{Abs64, Pc32, Plt
 use Rattle.omos_model.specs.declared.fragment.Kind.TheVariants.{Abs32S, Pc64, GotPcRelX}
 use Rattle.omos_model.specs.declared.fragment.Kind.TheVariants.{RexGotPcRelX}
 
--- S is the target's address, A the addend, P the field's address, G the address of the target's slot;
+-- S is the target's address, A the addend, P the field's address, G the address of the target's
+-- slot;
 -- sums are modulo 2^64
 abbrev pub sum_of : ℕ → ℤ → ℕ
 sum_of s a = cast_unsigned w64 (pos s +ℤ a) % 2 ^ 64

@@ -84,7 +84,8 @@ abbrev pub slot_byte : Plan → ℕ → ℕ → Option ℕ
 slot_byte plan base x =
     if covers (slots_begin plan.parts) (8 * length plan.slots) x
     then option_map
-    (λ target. slice_index (little_bytes 8 (address_of plan base target)) ((x - slots_begin plan.parts) % 8))
+    (λ target. slice_index (little_bytes 8 (address_of plan base target))
+    ((x - slots_begin plan.parts) % 8))
     (slice_get plan.slots ((x - slots_begin plan.parts) / 8))
     else None
 
@@ -100,7 +101,9 @@ piece_byte plan x =
 
 abbrev pub byte_of : Plan → ℕ → ℕ → ℕ
 byte_of plan base x =
-    unwrap_or (option_or (field_byte plan base x) (option_or (slot_byte plan base x) (piece_byte plan x))) 0
+    unwrap_or
+    (option_or (field_byte plan base x) (option_or (slot_byte plan base x) (piece_byte plan x)))
+    0
 
 -- ---- the headers
 

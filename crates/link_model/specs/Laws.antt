@@ -59,7 +59,8 @@ ProgramLandingsLaw =
 abbrev pub ReferencesLaw : Type 0
 ReferencesLaw =
     (ns : Space) (path : Name) (t : Term) (v : Visit) → expansion ns path ≡ Ok (t, v)
-    → AllByRecursion (λ r. landing t r.leaf r.number ≡ Some r.landing) (references (parts_of_term t))
+    → AllByRecursion (λ r. landing t r.leaf r.number ≡ Some r.landing)
+    (references (parts_of_term t))
 
 -- no two leaves of an expansion have one number
 abbrev pub LeavesApartLaw : Type 0

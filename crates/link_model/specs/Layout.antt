@@ -31,7 +31,8 @@ same_group Vars Vars = true
 same_group Zeros Zeros = true
 same_group _ _ = false
 
--- ---- pieces: in a group by leaf, then by number, each at the next offset that its alignment divides
+-- ---- pieces: in a group by leaf, then by number, each at the next offset that its alignment
+-- divides
 
 -- the pieces of all objects, by leaf, then by number
 abbrev pub program_pieces : Parts → List Piece
@@ -63,7 +64,8 @@ target_at (On target) = target
 target_at (Nothing name) = Fixed 0
 
 abbrev pub same_target : Target → Target → Bool
-same_target (Inside a b c) (Inside x y z) = if a == x then (if b == y then c == z else false) else false
+same_target (Inside a b c) (Inside x y z) = if a == x then (if b == y then c == z else false)
+    else false
 same_target (Fixed a) (Fixed x) = a == x
 same_target _ _ = false
 
@@ -75,7 +77,8 @@ with_slot slots target = if is_slot slots target then slots else slots ++ target
 
 abbrev pub slots_of : Parts → List Target
 slots_of parts =
-    fold with_slot [] (map (λ r. target_at r.landing) (filter (λ r. is_got r.fixup.kind) (references parts)))
+    fold with_slot []
+    (map (λ r. target_at r.landing) (filter (λ r. is_got r.fixup.kind) (references parts)))
 
 -- the number of a target's slot
 abbrev pub slot_number : List Target → Target → ℕ
@@ -106,7 +109,8 @@ group_begin Zeros parts =
 
 abbrev pub all_pages : Parts → ℕ
 all_pages parts =
-    group_pages Code parts + group_pages Consts parts + group_pages Vars parts + group_pages Zeros parts
+    group_pages Code parts + group_pages Consts parts + group_pages Vars parts + group_pages Zeros
+    parts
 
 -- a program has a page at least
 abbrev pub pages_in_all : Parts → ℕ

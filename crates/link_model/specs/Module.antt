@@ -36,7 +36,8 @@ pub record Module : Type 0 where
   pub lo : ℕ
   pub hi : ℕ
 
-abbrev pub module_of : Name → List Entry → List (List Landing) → List Found → List Stamped → Start → ℕ → ℕ → Module
+abbrev pub module_of : Name → List Entry → List (List Landing) → List Found → List Stamped → Start
+    → ℕ → ℕ → Module
 module_of path leaves landings names footprint start lo hi =
     record {
       path = path;
@@ -94,7 +95,8 @@ pub record IsEvaluation (m : Module) (t : Term) (v : Visit) : Type 0 where
   pub landings : m.landings ≡ map (landings_of t) (states t)
   pub names : (n : Name) → found m.names n ≡ definition t n
   pub footprint : footprint m.footprint m.path ≡ Some m.footprint
-  pub terms : option_map (λ s. terms_of s.entry) (look_up m.footprint m.path) ≡ Some (terms_of_module m)
+  pub terms : option_map (λ s. terms_of s.entry) (look_up m.footprint m.path)
+      ≡ Some (terms_of_module m)
 
 abbrev pub IsModule : Module → Type 0
 IsModule m = (t : Term) × (v : Visit) × IsEvaluation m t v
@@ -133,7 +135,8 @@ ready_of m layout = record { evaluated = m; layout = layout }
 abbrev pub IsReady : Ready → Type 0
 IsReady r =
     IsModule r.evaluated
-    × ((plan : Plan) × (plan_of r.evaluated.footprint r.evaluated.path ≡ Ok plan) × (r.layout ≡ placing_of plan))
+    × ((plan : Plan) × (plan_of r.evaluated.footprint r.evaluated.path ≡ Ok plan)
+    × (r.layout ≡ placing_of plan))
 
 -- what contracts see of a linked image
 pub record LinkedImage : Type 0 where

@@ -16,7 +16,8 @@ use Rattle.omos_model.specs.declared.mark.Landing.{Landing}
 use Rattle.omos_model.specs.declared.mark.Landing.TheVariants.{On, Nothing}
 use Rattle.omos_model.specs.declared.mark.Target.{Target}
 use Rattle.omos_model.specs.declared.refusal.Refusal.{Refusal}
-use Rattle.omos_model.specs.declared.refusal.Refusal.TheVariants.{ImageTooLarge, NoStart, Unresolved}
+use Rattle.omos_model.specs.declared.refusal.Refusal.TheVariants.{ImageTooLarge, NoStart}
+use Rattle.omos_model.specs.declared.refusal.Refusal.TheVariants.{Unresolved}
 use Rattle.link_model.specs.Program.{Parts, Reference, Terms, references, parts_of_term, terms_of}
 use Rattle.link_model.specs.Layout.{all_pages, pages_in_all, places_of, slots_of}
 

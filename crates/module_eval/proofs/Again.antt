@@ -1,5 +1,6 @@
 -- A blueprint whose table is kept, and used again.
-use Rattle.std.proofs.Common.{◌≡◌, ◌∙◌, ℕ, ◌+◌, ◌-◌, ◌<◌, ◌%◌, Bool, true, false, cond, List, [], ◌∷◌, Some, Result, Ok, Err}
+use Rattle.std.proofs.Common.{◌≡◌, ◌∙◌, ℕ, ◌+◌, ◌-◌, ◌<◌, ◌%◌, Bool, true, false, cond, List, []}
+use Rattle.std.proofs.Common.{◌∷◌, Some, Result, Ok, Err}
 use Rattle.std.proofs.Common.{refl, sym, ap, subst, length, arith}
 use Rattle.std.specs.Prelude.{IfSome}
 use Rattle.std.specs.Map.{lookup}
@@ -50,23 +51,31 @@ kept_more ns (e ∷ es) p kept h f =
     go : (b : Bool) → same_name p e.0 ≡ b → AreKept ns (insert_entry same_name es p kept)
         → AreKept ns (cond b ((e.0, kept) ∷ es) (e ∷ insert_entry same_name es p kept))
     go true is k =
-        record { each = (subst (λ (q : Name). IsKept ns q kept) (same_name-true p e.0 is) h, f.each.1) }
+        record {
+          each = (
+            subst (λ (q : Name). IsKept ns q kept) (same_name-true p e.0 is) h,
+            f.each.1,
+          );
+        }
     go false is k = record { each = (f.each.0, k.each) }
 
 -- ---- a run
 
 -- a walk through a blueprint's expression is a run
-pub run_of : (ns : Space) (limit : ℕ) (above : List Name) (path : Name) (x : Tree) (v w : Visit) (t : Term)
+pub run_of : (ns : Space) (limit : ℕ) (above : List Name) (path : Name) (x : Tree) (v w : Visit)
+    (t : Term)
     → source ns path ≡ Some (Blueprint x) → nested_on (tree_in ns limit above path x) v ≡ Ok (t, w)
     → IsRun ns path v.leaves t
 run_of ns limit above path x v w t there is =
-    go (tree_in ns limit above path x o) (front_tree (source ns) (limit - length above) above path x o) is
+    go (tree_in ns limit above path x o)
+    (front_tree (source ns) (limit - length above) above path x o) is
   where
     o : Visit
     o = record v { node = 0 }
 
     go : (y : Trail Term) → front y ≡ tree_at (source ns) (limit - length above) above path x o
-        → and_on y (λ u z. Ok (u, record z { node = v.node })) ≡ Ok (t, w) → IsRun ns path v.leaves t
+        → and_on y (λ u z. Ok (u, record z { node = v.node })) ≡ Ok (t, w)
+        → IsRun ns path v.leaves t
     go (Ok r) e h =
         let pair : (r.0, record r.1 { node = v.node }) ≡ (t, w) = cc in
         let same : r.0 ≡ t = ap (λ (q : Term × Visit). q.0) pair in
@@ -89,11 +98,15 @@ run_of ns limit above path x v w t there is =
 pub same_run : (ns : Space) (path : Name) (first second k : ℕ) (t u : Term) → IsRun ns path first t
     → IsRun ns path second u → second ≡ raised k first → u ≡ shifted k t
 same_run ns path first second k t u once run number =
-    let trees : Some (Blueprint once.tree) ≡ Some (Blueprint run.tree) = sym once.there ∙ run.there in
+    let trees : Some (Blueprint once.tree) ≡ Some (Blueprint run.tree) =
+    sym once.there ∙ run.there in
     let tree : run.tree ≡ once.tree = cc in
-    let expanded = subst (λ (x : Tree). tree_at (source ns) run.room run.above path x run.start ≡ Ok (u, run.after)) tree run.expanded in
+    let expanded =
+    subst (λ (x : Tree). tree_at (source ns) run.room run.above path x run.start
+    ≡ Ok (u, run.after)) tree run.expanded in
     let law =
-    same_term_law (source ns) once.room run.room once.above run.above path once.tree k once.start run.start once.after run.after t u (run.node ∙ sym once.node)
+    same_term_law (source ns) once.room run.room once.above run.above path once.tree k once.start
+    run.start once.after run.after t u (run.node ∙ sym once.node)
     (run.leaves ∙ number ∙ ap (raised k) (sym once.leaves)) once.expanded expanded in
     law.0
 
@@ -124,7 +137,8 @@ shift_to first before h k = omega (arith, h, k)
 pub unshifted : (n : ℕ) → n < 4294967296 → n ≡ raised 0 n
 unshifted n h = omega (arith, h)
 
-pub own_means : (ns : Space) (path : Name) (first : ℕ) (part : Part) (table own : TableParts) (t : Term)
+pub own_means : (ns : Space) (path : Name) (first : ℕ) (part : Part) (table own : TableParts)
+    (t : Term)
     → first < 4294967296 → IsBuilt (Some (Ok table)) part → IsInstance 0 table own
     → Means false part t → IsRun ns path first t → Means false (Built own) t
 own_means ns path first part table own t few is instance h run =

@@ -1,5 +1,6 @@
 -- The walk to a path, by what stands under it.
-use Rattle.std.proofs.Common.{◌≡◌, ℕ, zero, suc, Bool, true, false, List, [], ◌∷◌, ◌++◌, Option, Some, None, Ok, Err}
+use Rattle.std.proofs.Common.{◌≡◌, ℕ, zero, suc, Bool, true, false, List, [], ◌∷◌, ◌++◌, Option}
+use Rattle.std.proofs.Common.{Some, None, Ok, Err}
 use Rattle.std.proofs.Common.{◌-◌, ◌<◌, ◌≤◌, length, length-append, cond, refl, sym, ap, ◌∙◌, arith}
 use Rattle.std.specs.Option.{option_map}
 use Rattle.std.specs.Prelude.{Result}
@@ -12,21 +13,23 @@ use Rattle.omos_model.specs.Namespace.{Space, look_up}
 use Rattle.omos_model.specs.Term.{Term}
 use Rattle.omos_model.specs.Tree.{Tree}
 use Rattle.omos_model.specs.Expansion.{Source, Object, Blueprint, add_read, here, source, source_of}
-use Rattle.module_share.specs.Trails.{Trail, Trailer, and_on, begin_path_on, expand_on, leaf_on, nested_on, visit_on}
+use Rattle.module_share.specs.Trails.{Trail, Trailer, and_on, begin_path_on, expand_on, leaf_on}
+use Rattle.module_share.specs.Trails.{nested_on, visit_on}
 use Rattle.omos_model.specs.declared.entry.Entry.{Entry}
 use Rattle.omos_model.specs.declared.entry.Stamped.{Stamped}
 use Rattle.omos_model.specs.declared.refusal.Refusal.{Refusal}
 use Rattle.omos_model.specs.declared.refusal.Refusal.TheVariants.{NoEntry, Cycle, TooDeep}
 use Rattle.omos_model.specs.Visit.{Visit}
 use Rattle.omos_model.specs.declared.refusal.Site.{Site}
-use Rattle.module_table.specs.Faults.{Tells}
+use Rattle.module_table.specs.inside.Faults.{Tells}
 use Rattle.module_eval.specs.Counted.{StepsToNode, visit_of}
 use Rattle.module_eval.specs.Walked.{Walked, Bars, path_in, tree_in}
 use Rattle.module_eval.specs.declared.counts.Counts.{Counts}
 use Rattle.module_eval.specs.declared.part.Part.{Part}
 use Rattle.module_eval.proofs.Joined.{means_any}
 
-module _ (ns : Name → Option Source) (above : List Name) (counted : Bool) (at p : Name) (v : Visit) where
+module _ (ns : Name → Option Source) (above : List Name) (counted : Bool) (at p : Name)
+    (v : Visit) where
   pub none_at : (room : ℕ) → ns p ≡ None
       → expand_on ns room above counted at p v ≡ Err (NoEntry (here at v) p, v)
   unfolding expand_on
@@ -34,7 +37,8 @@ module _ (ns : Name → Option Source) (above : List Name) (counted : Bool) (at 
   none_at (suc room) h = rw h refl
 
   pub object_at : (room : ℕ) (f : FragmentParts) → ns p ≡ Some (Object f)
-      → expand_on ns room above counted at p v ≡ and_on (begin_path_on counted at (add_read p v)) (leaf_on f)
+      → expand_on ns room above counted at p v
+      ≡ and_on (begin_path_on counted at (add_read p v)) (leaf_on f)
   unfolding expand_on
   object_at zero f h = rw h refl
   object_at (suc room) f h = rw h refl
@@ -54,7 +58,8 @@ module _ (ns : Name → Option Source) (above : List Name) (counted : Bool) (at 
   pub opened_at : (room left : ℕ) (x : Tree) → ns p ≡ Some (Blueprint x)
       → is_among above p ≡ false → room ≡ suc left
       → expand_on ns room above counted at p v
-      ≡ and_on (begin_path_on counted at (add_read p v)) (λ s. nested_on (visit_on p (expand_on ns left (above ++ p ∷ []) true p) x))
+      ≡ and_on (begin_path_on counted at (add_read p v))
+      (λ s. nested_on (visit_on p (expand_on ns left (above ++ p ∷ []) true p) x))
   unfolding expand_on
   opened_at room left x h e r = rw (r, h, e) refl
 
@@ -104,18 +109,23 @@ barred ns above counted at p t f counting w there h = go (is_among above p) refl
         → (is_among above p ≡ false → 32 ≤ length above)
         → Walked counting (Err f) (expand_on ns (32 - length above) above counted at p v) w
     go true e d far =
-        told counting f (Cycle (here at v) p) _ w d (cycle_at ns above counted at p v (32 - length above) t there e)
+        told counting f (Cycle (here at v) p) _ w d
+        (cycle_at ns above counted at p v (32 - length above) t there e)
     go false e d far =
         let deep = far e in
-        told counting f (TooDeep (here at v) p) _ w d (deep_at ns above counted at p v (32 - length above) t there e (omega (arith, deep)))
+        told counting f (TooDeep (here at v) p) _ w d
+        (deep_at ns above counted at p v (32 - length above) t there e (omega (arith, deep)))
 
-module _ (ns : Space) (limit : ℕ) (above : List Name) (counted : Bool) (at p : Name) (v : Visit) (x : Tree)
+module _ (ns : Space) (limit : ℕ) (above : List Name) (counted : Bool) (at p : Name) (v : Visit)
+    (x : Tree)
     (there : source ns p ≡ Some (Blueprint x)) (out : is_among above p ≡ false)
     (few : length above < limit) where
   pub opened : path_in ns limit above counted at p v
-      ≡ and_on (begin_path_on counted at (add_read p v)) (λ s. nested_on (tree_in ns limit (above ++ p ∷ []) p x))
+      ≡ and_on (begin_path_on counted at (add_read p v))
+      (λ s. nested_on (tree_in ns limit (above ++ p ∷ []) p x))
   opened =
-      opened_at (source ns) above counted at p v (limit - length above) (limit - length (above ++ p ∷ [])) x there out
+      opened_at (source ns) above counted at p v (limit - length above)
+      (limit - length (above ++ p ∷ [])) x there out
       (omega (arith, few, length-append above (p ∷ [])))
 
   pub walked_inside : (counting : Bool) (r : Result Part (Fault Refusal)) (s : Site) (w y : Counts)
@@ -129,7 +139,9 @@ module _ (ns : Space) (limit : ℕ) (above : List Name) (counted : Bool) (at p :
       → StepsToNode (Err f) at (begin_path_on counted at (add_read p v)) w
       → Walked counting (Err f) (path_in ns limit above counted at p v) w
   not_opened counting f w h =
-      rw opened (err_on_step f at (begin_path_on counted at (add_read p v)) (λ s. nested_on (tree_in ns limit (above ++ p ∷ []) p x)) counting w h)
+      rw opened
+      (err_on_step f at (begin_path_on counted at (add_read p v))
+      (λ s. nested_on (tree_in ns limit (above ++ p ∷ []) p x)) counting w h)
 
 -- nodes with numbers of their own
 pub walked_nested : (counting : Bool) (part : Part) (x : Trailer Term) (v : Visit) (y : Counts)
@@ -138,7 +150,8 @@ pub walked_nested : (counting : Bool) (part : Part) (x : Trailer Term) (v : Visi
 walked_nested counting part x v y h = (h.0, rw h.1 refl, h.2)
 
 -- what was built is known where the walk counts, too
-pub walked_any : (counting : Bool) (r : Result Part (Fault Refusal)) (walk : Trail Term) (w : Counts)
+pub walked_any : (counting : Bool) (r : Result Part (Fault Refusal)) (walk : Trail Term)
+    (w : Counts)
     → Walked false r walk w → Walked counting r walk w
 walked_any counting (Ok part) walk w h = (h.0, h.1, means_any counting part h.0 h.2)
 walked_any counting (Err (Refused x)) walk w h = h

@@ -1,5 +1,6 @@
 -- A walk that has come back goes on.
-use Rattle.std.proofs.Common.{◌≡◌, ◌∙◌, ◌≤◌, ℕ, Bool, true, List, Some, length, Result, Ok, Err, refl, sym, ap, subst, arith}
+use Rattle.std.proofs.Common.{◌≡◌, ◌∙◌, ◌≤◌, ℕ, Bool, true, List, Some, length, Result, Ok, Err}
+use Rattle.std.proofs.Common.{refl, sym, ap, subst, arith}
 use Rattle.std.specs.Prelude.{OnOk, max}
 use Rattle.omos_model.specs.Names.{Name}
 use Rattle.omos_model.specs.Expansion.{Object, source}
@@ -18,7 +19,8 @@ pub count_on : (a b d : Counts) → CountOn a b → CountOn b d → CountOn a d
 count_on a b d h k = record { counted = k.counted; least = omega (arith, h.least, k.least) }
 
 -- it went nowhere
-pub back_at_once : (ns : Space) (counted : Bool) (a : Walk) → IsReady ns a → ComesBack ns counted a a
+pub back_at_once : (ns : Space) (counted : Bool) (a : Walk) → IsReady ns a
+    → ComesBack ns counted a a
 back_at_once ns counted a h = record {
   above = refl;
   found = λ f. f;
@@ -35,7 +37,8 @@ back_on ns counted a b d h k = record {
   found = λ f. k.found (h.found f);
   kept = k.kept;
   stays = λ q built. k.stays q (h.stays q built);
-  deepens = record { deeper = omega (arith, h.deepens.deeper, k.deepens.deeper); low = k.deepens.low };
+  deepens =
+      record { deeper = omega (arith, h.deepens.deeper, k.deepens.deeper); low = k.deepens.low };
   known = k.known;
 }
 
@@ -59,7 +62,8 @@ back_from ns counted a b d above memo read k =
       above = k.above ∙ above;
       found = λ f. k.found (subst (AreFound ns) (sym read) f);
       kept = k.kept;
-      stays = λ q h. k.stays q (subst (λ (m : Memo). is_built m.kept.entries q ≡ true) (sym memo) h);
+      stays = λ q h. k.stays q
+          (subst (λ (m : Memo). is_built m.kept.entries q ≡ true) (sym memo) h);
       deepens = record { deeper = omega (arith, deepest, k.deepens.deeper); low = k.deepens.low };
       known = k.known;
     }
@@ -68,7 +72,8 @@ back_from ns counted a b d above memo read k =
 pub back_object : {X E : Type 0} (ns : Space) (counted : Bool) (a : Walk) (new : Counts) (p : Name)
     (e : Stamped) (f : FragmentParts) (r : Result X E) → IsReady ns a → look_up ns p ≡ Some e
     → source ns p ≡ Some (Object f)
-    → OnOk r ((ms : Space) → look_up ms p ≡ Some e → AreFound ms a.counts.read.entries → AreFound ms new.read.entries)
+    → OnOk r ((ms : Space) → look_up ms p ≡ Some e → AreFound ms a.counts.read.entries
+    → AreFound ms new.read.entries)
     → OnOk r (IsReadAlone a.counts.read.entries new.read.entries p)
     → OnOk r (StayRead a.counts.read.entries new.read.entries)
     → OnOk r (ComesBack ns counted a (record a { counts = new }))
@@ -79,7 +84,8 @@ back_object ns counted a new p e f (Ok x) h there is found alone stay = record {
   stays = λ q built. built;
   deepens = record { deeper = omega arith; low = h.low };
   known = λ c.
-      known_object ns a.above a.above a.counts.read.entries new.read.entries a.memo.apart a.memo.kept.entries p f is alone stay h.known;
+      known_object ns a.above a.above a.counts.read.entries new.read.entries a.memo.apart
+      a.memo.kept.entries p f is alone stay h.known;
 }
 back_object ns counted a new p e f (Err x) h there is found alone stay = tt
 

@@ -1,5 +1,6 @@
 -- What is known of the blueprints that were read, as they are opened and closed.
-use Rattle.std.proofs.Common.{◌≡◌, ◌∙◌, ◌+◌, ◌≤◌, Bool, true, false, List, [], ◌∷◌, ◌++◌, Option, Some, None}
+use Rattle.std.proofs.Common.{◌≡◌, ◌∙◌, ◌+◌, ◌≤◌, Bool, true, false, List, [], ◌∷◌, ◌++◌, Option}
+use Rattle.std.proofs.Common.{Some, None}
 use Rattle.std.proofs.Common.{refl, sym, ap, subst, arith, true≢false}
 use Rattle.std.specs.Borrow.{Bor}
 use Rattle.std.specs.Map.{keys_of}
@@ -14,7 +15,8 @@ use Rattle.omos_model.specs.declared.entry.Stamped.{Stamped}
 use Rattle.omos_model.proofs.Names.{same_name-true}
 use Rattle.module_share.specs.Places.{AllNamed}
 use Rattle.module_share.proofs.Named.{WasOpened, named_so}
-use Rattle.module_eval.specs.Costs.{IsBuiltAlone, IsRead, IsReadAlone, StayBuilt, StayRead, is_built}
+use Rattle.module_eval.specs.Costs.{IsBuiltAlone, IsRead, IsReadAlone, StayBuilt, StayRead}
+use Rattle.module_eval.specs.Costs.{is_built}
 use Rattle.module_eval.specs.Costs.{operators, read_of}
 use Rattle.module_eval.specs.Known.{AreKnown, is_closed, is_closed_in, is_done}
 use Rattle.module_eval.specs.declared.memo.Kept.{Kept}
@@ -23,7 +25,8 @@ use Rattle.module_eval.proofs.Opened.{beyond, inside, outside}
 -- ---- what is done with
 
 done_more : (ns : Space) (old new : List (Name × Bor Stamped)) (all : List (Name × Kept)) (q : Name)
-    → StayRead old new → is_done ns (keys_of old) all q ≡ true → is_done ns (keys_of new) all q ≡ true
+    → StayRead old new → is_done ns (keys_of old) all q ≡ true
+    → is_done ns (keys_of new) all q ≡ true
 done_more ns old new all q stay h =
     let parts = and_parts (is_among (keys_of old) q) (is_closed_in ns all q) h in
     and_from (is_among (keys_of new) q) (is_closed_in ns all q) (stay q parts.0) parts.1
@@ -57,19 +60,22 @@ same_tree x y h = cc
 
 -- ---- what is known, as blueprints are opened and closed
 
-module _ (ns : Space) (above more : List Name) (old new : List (Name × Bor Stamped)) (apart : Bool) (all : List (Name × Kept)) (p : Name) where
+module _ (ns : Space) (above more : List Name) (old new : List (Name × Bor Stamped)) (apart : Bool)
+    (all : List (Name × Kept)) (p : Name) where
   still_closed : StayRead old new → AreKnown ns above old apart all → (q : Name) (x : Tree)
       → source ns q ≡ Some (Blueprint x) → is_built all q ≡ true
       → AllNamed (λ r. is_done ns (keys_of new) all r ≡ true) x
   still_closed stay known q x there built =
-      named_so (λ r. is_done ns (keys_of old) all r ≡ true) (λ r. is_done ns (keys_of new) all r ≡ true)
+      named_so (λ r. is_done ns (keys_of old) all r ≡ true)
+      (λ r. is_done ns (keys_of new) all r ≡ true)
       (λ r. done_more ns old new all r stay) x (known.closed q x there built)
 
   -- a blueprint is read and opened for the first time
   pub known_opened : (x : Tree) → more ≡ above ++ p ∷ [] → IsReadAlone old new p → StayRead old new
       → source ns p ≡ Some (Blueprint x) → is_built all p ≡ false
       → AreKnown ns above old apart all → AreKnown ns more new apart all
-  known_opened x is alone stay there fresh known = record { each = each; closed = still_closed stay known; unkept = unkept }
+  known_opened x is alone stay there fresh known =
+      record { each = each; closed = still_closed stay known; unkept = unkept }
     where
       each : (q : Name) (y : Tree) → source ns q ≡ Some (Blueprint y) → IsRead new q
           → is_among more q ≡ false → is_built all q ≡ true
@@ -93,7 +99,8 @@ module _ (ns : Space) (above more : List Name) (old new : List (Name × Bor Stam
   -- one that is kept is read again
   pub known_again : IsReadAlone old new p → StayRead old new → is_built all p ≡ true
       → AreKnown ns above old apart all → AreKnown ns above new apart all
-  known_again alone stay built known = record { each = each; closed = still_closed stay known; unkept = known.unkept }
+  known_again alone stay built known =
+      record { each = each; closed = still_closed stay known; unkept = known.unkept }
     where
       each : (q : Name) (x : Tree) → source ns q ≡ Some (Blueprint x) → IsRead new q
           → is_among above q ≡ false → is_built all q ≡ true
@@ -106,7 +113,8 @@ module _ (ns : Space) (above more : List Name) (old new : List (Name × Bor Stam
   -- an object is read
   pub known_object : (f : FragmentParts) → source ns p ≡ Some (Object f) → IsReadAlone old new p
       → StayRead old new → AreKnown ns above old apart all → AreKnown ns above new apart all
-  known_object f there alone stay known = record { each = each; closed = still_closed stay known; unkept = known.unkept }
+  known_object f there alone stay known =
+      record { each = each; closed = still_closed stay known; unkept = known.unkept }
     where
       each : (q : Name) (x : Tree) → source ns q ≡ Some (Blueprint x) → IsRead new q
           → is_among above q ≡ false → is_built all q ≡ true
@@ -114,7 +122,8 @@ module _ (ns : Space) (above more : List Name) (old new : List (Name × Bor Stam
         where
           go : (b : Bool) → same_name q p ≡ b → is_built all q ≡ true
           go true e =
-              absurd (other_source f x (sym there ∙ ap (source ns) (sym (same_name-true q p e)) ∙ other))
+              absurd (other_source f x (sym there ∙ ap (source ns) (sym (same_name-true q p e))
+              ∙ other))
           go false e = known.each q x other (alone q e read) out
 
 module _ (ns : Space) (above more : List Name) (read : List (Name × Bor Stamped)) (p : Name)
@@ -146,7 +155,8 @@ module _ (ns : Space) (above more : List Name) (read : List (Name × Bor Stamped
           go false e = known.each q x there h (beyond above more p q is out e)
 
   -- one is closed for the first time, and kept
-  pub known_closed : (apart : Bool) (old new : List (Name × Kept)) (x : Tree) → is_among above p ≡ false → source ns p ≡ Some (Blueprint x)
+  pub known_closed : (apart : Bool) (old new : List (Name × Kept)) (x : Tree)
+      → is_among above p ≡ false → source ns p ≡ Some (Blueprint x)
       → IsBuiltAlone old new p
       → StayBuilt old new → is_built new p ≡ true
       → AllNamed (WasOpened (source ns) (above ++ p ∷ []) (keys_of read)) x
@@ -171,7 +181,8 @@ module _ (ns : Space) (above more : List Name) (read : List (Name × Bor Stamped
           go : (o : Option Source) → source ns r ≡ o → is_closed o (is_built new r) ≡ true
           go None e = absurd (h.there e)
           go (Some (Object f)) e = refl
-          go (Some (Blueprint y)) e = stay r (known.each r y e h.read (ap (λ ps. is_among ps r) is ∙ h.free y e))
+          go (Some (Blueprint y)) e =
+              stay r (known.each r y e h.read (ap (λ ps. is_among ps r) is ∙ h.free y e))
 
       closed : (q : Name) (y : Tree) → source ns q ≡ Some (Blueprint y)
           → is_built new q ≡ true
@@ -181,11 +192,14 @@ module _ (ns : Space) (above more : List Name) (read : List (Name × Bor Stamped
           go : (b : Bool) → same_name q p ≡ b
               → AllNamed (λ r. is_done ns (keys_of read) new r ≡ true) y
           go true e =
-              let same : x ≡ y = same_tree x y (sym there ∙ ap (source ns) (sym (same_name-true q p e)) ∙ here) in
+              let same : x ≡ y =
+              same_tree x y (sym there ∙ ap (source ns) (sym (same_name-true q p e)) ∙ here) in
               subst (AllNamed (λ r. is_done ns (keys_of read) new r ≡ true)) same
-              (named_so (WasOpened (source ns) (above ++ p ∷ []) (keys_of read)) (λ r. is_done ns (keys_of read) new r ≡ true) done x named)
+              (named_so (WasOpened (source ns) (above ++ p ∷ []) (keys_of read))
+              (λ r. is_done ns (keys_of read) new r ≡ true) done x named)
           go false e =
-              named_so (λ r. is_done ns (keys_of read) old r ≡ true) (λ r. is_done ns (keys_of read) new r ≡ true)
+              named_so (λ r. is_done ns (keys_of read) old r ≡ true)
+              (λ r. is_done ns (keys_of read) new r ≡ true)
               (λ r. done_kept ns (keys_of read) old new r stay) y
               (known.closed q y here (alone q e h))
 
@@ -211,11 +225,13 @@ known_first ns read apart all none empty = record {
 
 -- the first use of a blueprint is charged to the path that is read for the first time
 pub charged : (ns : Space) (above : List Name) (old new : List (Name × Bor Stamped)) (apart : Bool)
-    (all : List (Name × Kept)) (p : Name) (x : Tree) → AreKnown ns above old apart all → source ns p ≡ Some (Blueprint x)
+    (all : List (Name × Kept)) (p : Name) (x : Tree) → AreKnown ns above old apart all
+    → source ns p ≡ Some (Blueprint x)
     → is_among above p ≡ false → is_built all p ≡ false
     → (is_among (keys_of old) p ≡ false → read_of ns old + operators x ≡ read_of ns new)
     → read_of ns old + operators x ≤ read_of ns new
-charged ns above old new apart all p x known there out unbuilt fresh = go (is_among (keys_of old) p) refl
+charged ns above old new apart all p x known there out unbuilt fresh =
+    go (is_among (keys_of old) p) refl
   where
     go : (c : Bool) → is_among (keys_of old) p ≡ c → read_of ns old + operators x ≤ read_of ns new
     go true e = absurd (true≢false (sym (known.each p x there e out) ∙ unbuilt))

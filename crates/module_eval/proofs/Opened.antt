@@ -1,5 +1,6 @@
 -- The blueprints that are open, where one more is or the last is closed.
-use Rattle.std.proofs.Common.{◌≡◌, ◌∙◌, Bool, true, false, ◌||◌, List, [], ◌∷◌, ◌++◌, Option, Some, None}
+use Rattle.std.proofs.Common.{◌≡◌, ◌∙◌, Bool, true, false, ◌||◌, List, [], ◌∷◌, ◌++◌, Option, Some}
+use Rattle.std.proofs.Common.{None}
 use Rattle.std.proofs.Common.{refl, sym, ap, arith, true≢false, length, length-append, take}
 use Rattle.std.specs.Prelude.{MatchOption}
 use Rattle.std.specs.List.{list_any}
@@ -14,7 +15,8 @@ pub last_among : (all above : List Name) (p : Name) → all ≡ above ++ p ∷ [
 last_among all above p is =
     ap (λ ps. is_among ps p) is
     ∙ list_any-append (same_name p) above (p ∷ [])
-    ∙ or_right (is_among above p) (list_any (same_name p) (p ∷ [])) (or_left (same_name p p) false (same_name-refl p p refl))
+    ∙ or_right (is_among above p) (list_any (same_name p) (p ∷ []))
+    (or_left (same_name p p) false (same_name-refl p p refl))
 
 either : (a b : Bool) → (a || (b || false)) ≡ false → (a ≡ false) × (b ≡ false)
 either true b h = absurd (true≢false h)
@@ -48,7 +50,8 @@ popped_so (Some last) old new above p is h =
     ∙ (λ i. take (same i) (whole i))
     ∙ take-append_seam above (p ∷ [])
 
-pub inside : (above more : List Name) (p q : Name) → more ≡ above ++ p ∷ [] → is_among above q ≡ true
+pub inside : (above more : List Name) (p q : Name) → more ≡ above ++ p ∷ []
+    → is_among above q ≡ true
     → is_among more q ≡ true
 inside above more p q is h =
     ap (λ ps. is_among ps q) is
@@ -61,7 +64,8 @@ outside above more p q is out =
     either (is_among above q) (same_name q p)
     (sym (list_any-append (same_name q) above (p ∷ [])) ∙ sym (ap (λ ps. is_among ps q) is) ∙ out)
 
-pub beyond : (above more : List Name) (p q : Name) → more ≡ above ++ p ∷ [] → is_among above q ≡ false
+pub beyond : (above more : List Name) (p q : Name) → more ≡ above ++ p ∷ []
+    → is_among above q ≡ false
     → same_name q p ≡ false → is_among more q ≡ false
 beyond above more p q is out e =
     ap (λ ps. is_among ps q) is ∙ not_last above p q out e

@@ -28,7 +28,8 @@ pub paid : (ns : Space) (path : Name) (result : Result Part (Fault Refusal)) (ne
     → new_steps ≤ old_steps + read_of ns new.read.entries
     → IsPaid result old_steps new_steps ns path
 paid ns path (Ok part) new old_steps new_steps h few =
-    subst (λ (w : Trail Term). new_steps ≤ old_steps + operators_of ns (visited w).read) (sym h.1) few
+    subst (λ (w : Trail Term). new_steps ≤ old_steps + operators_of ns (visited w).read) (sym h.1)
+    few
 paid ns path (Err (Refused x)) new old_steps new_steps h few =
     subst (λ (w : Trail Term). new_steps ≤ old_steps + operators_of ns (visited w).read) (sym h) few
 paid ns path (Err NoMemory) new old_steps new_steps h few = tt

@@ -1,5 +1,6 @@
 -- A blueprint that is used once more without a walk.
-use Rattle.std.proofs.Common.{◌≡◌, ◌∙◌, ℕ, ◌+◌, ◌-◌, ◌<◌, ◌≤◌, Bool, true, false, List, [], ◌∷◌, ◌++◌, Some, Ok, Err}
+use Rattle.std.proofs.Common.{◌≡◌, ◌∙◌, ℕ, ◌+◌, ◌-◌, ◌<◌, ◌≤◌, Bool, true, false, List, [], ◌∷◌}
+use Rattle.std.proofs.Common.{◌++◌, Some, Ok, Err}
 use Rattle.std.proofs.Common.{refl, sym, ap, subst, length, length-append, arith, true≢false}
 use Rattle.std.specs.Borrow.{Bor}
 use Rattle.std.specs.Map.{keys_of}
@@ -41,21 +42,26 @@ at_first v = record v { node = 0 }
 
 -- ---- what a walk through a blueprint's expression tells of it
 
-record Went (ns : Space) (limit : ℕ) (above : List Name) (path : Name) (x : Tree) (v w : Visit) (t : Term) : Type 0
+record Went (ns : Space) (limit : ℕ) (above : List Name) (path : Name) (x : Tree) (v w : Visit)
+    (t : Term) : Type 0
   where
     after : Visit
     same : w ≡ record after { node = v.node }
-    expanded : tree_at (source ns) (room_in limit above path) (in_path above path) path x (at_first v) ≡ Ok (t, after)
+    expanded : tree_at (source ns) (room_in limit above path) (in_path above path) path x
+        (at_first v) ≡ Ok (t, after)
 
-module _ (ns : Space) (limit : ℕ) (above : List Name) (path : Name) (x : Tree) (v w : Visit) (t : Term)
+module _ (ns : Space) (limit : ℕ) (above : List Name) (path : Name) (x : Tree) (v w : Visit)
+    (t : Term)
     (is : nested_on (tree_in ns limit (above ++ path ∷ []) path x) v ≡ Ok (t, w)) where
   went : Went ns limit above path x v w t
   went =
       go (tree_in ns limit (in_path above path) path x (at_first v))
-      (front_tree (source ns) (room_in limit above path) (in_path above path) path x (at_first v)) is
+      (front_tree (source ns) (room_in limit above path) (in_path above path) path x (at_first v))
+      is
     where
       go : (y : Trail Term)
-          → front y ≡ tree_at (source ns) (room_in limit above path) (in_path above path) path x (at_first v)
+          → front y ≡ tree_at (source ns) (room_in limit above path) (in_path above path) path x
+          (at_first v)
           → and_on y (λ u z. Ok (u, record z { node = v.node })) ≡ Ok (t, w)
           → Went ns limit above path x v w t
       go (Ok r) e h =
@@ -72,13 +78,18 @@ module _ (ns : Space) (limit : ℕ) (above : List Name) (path : Name) (x : Tree)
   pub named_by : AllNamed (WasOpened (source ns) (above ++ path ∷ []) w.read) x
   named_by =
       let g = went in
-      subst (λ read. AllNamed (WasOpened (source ns) (in_path above path) read) x) (sym (ap (λ (z : Visit). z.read) g.same))
-      (named_opened (source ns) (room_in limit above path) (in_path above path) path x (at_first v) g.after t g.expanded)
+      subst (λ read. AllNamed (WasOpened (source ns) (in_path above path) read) x)
+      (sym (ap (λ (z : Visit). z.read) g.same))
+      (named_opened (source ns) (room_in limit above path) (in_path above path) path x (at_first v)
+      g.after t g.expanded)
 
   grew : (g : Went ns limit above path x v w t) → Grows (at_first v) g.after
   grew g =
       subst (Grown (at_first v)) g.expanded
-      (visit_grown path (expand (source ns) (room_in limit above path) (in_path above path) true path) (expand_grown (source ns) (room_in limit above path) (in_path above path) true path) x (at_first v))
+      (visit_grown path
+      (expand (source ns) (room_in limit above path) (in_path above path) true path)
+      (expand_grown (source ns) (room_in limit above path) (in_path above path) true path) x
+      (at_first v))
 
   -- what it added is its reach
   pub reach_of : (reach : Reach) → source ns path ≡ Some (Blueprint x) → length above < limit
@@ -135,7 +146,8 @@ moved o a w b added node m e f g h =
       read = m.read i;
     }
 
-module _ (ns : Space) (limit : ℕ) (above : List Name) (path : Name) (x : Tree) (reach : Reach) (v : Visit)
+module _ (ns : Space) (limit : ℕ) (above : List Name) (path : Name) (x : Tree) (reach : Reach)
+    (v : Visit)
     (read : List (Name × Bor Stamped)) (apart : Bool) (all : List (Name × Kept)) where
   abbrev done : Name → Bool
   done q = is_done ns (keys_of read) all q
@@ -152,7 +164,8 @@ module _ (ns : Space) (limit : ℕ) (above : List Name) (path : Name) (x : Tree)
           let parts = and_parts (is_among (keys_of read) q) (is_closed_in ns all q) is in
           absurd (true≢false (sym parts.1 ∙ known.unkept none_open q e))
       go false true e f =
-          absurd (true≢false (sym inside ∙ ap (is_among there) (sym (same_name-true q path f)) ∙ out))
+          absurd (true≢false (sym inside ∙ ap (is_among there) (sym (same_name-true q path f))
+          ∙ out))
       go false false e f = not_last above path q e f
 
   closed : AreKnown ns above read apart all → IsClosed (source ns) (λ q. done q ≡ true)
@@ -165,17 +178,23 @@ module _ (ns : Space) (limit : ℕ) (above : List Name) (path : Name) (x : Tree)
       → AreKnown ns above read apart all → apart ≡ true → is_built all path ≡ true
       → v.read ≡ keys_of read → Fits reach.added v
       → reach.height + length above ≤ limit
-      → (u : Term) × (nested_on (tree_in ns limit (above ++ path ∷ []) path x) v ≡ Ok (u, with_added reach.added v))
+      → (u : Term)
+      × (nested_on (tree_in ns limit (above ++ path ∷ []) path x) v
+      ≡ Ok (u, with_added reach.added v))
   reused h there known none_open built reads room high =
       let trees : Some (Blueprint h.tree) ≡ Some (Blueprint x) = sym h.there ∙ there in
       let tree : h.tree ≡ x = same_tree h.tree x trees in
-      let first = subst (λ y. tree_at (source ns) h.room h.above path y h.start ≡ Ok (h.term, h.after)) tree h.expanded in
+      let first =
+      subst (λ y. tree_at (source ns) h.room h.above path y h.start ≡ Ok (h.term, h.after)) tree
+      h.expanded in
       let long = length-append above (path ∷ []) in
       let low = h.low in
       let again =
-      anywhere_law (source ns) done h.room (room_in limit above path) h.above (in_path above path) path x h.start h.after (at_first v) h.term
+      anywhere_law (source ns) done h.room (room_in limit above path) h.above (in_path above path)
+      path x h.start h.after (at_first v) h.term
       (closed known) (known.closed path x there built)
-      (λ q is. ap (λ ps. is_among ps q) reads ∙ (and_parts (is_among (keys_of read) q) (is_closed_in ns all q) is).0)
+      (λ q is. ap (λ ps. is_among ps q) reads
+      ∙ (and_parts (is_among (keys_of read) q) (is_closed_in ns all q) is).0)
       (free none_open known h.above h.inside)
       (omega (arith, long, low, high))
       (sym h.node)
@@ -186,11 +205,14 @@ module _ (ns : Space) (limit : ℕ) (above : List Name) (path : Name) (x : Tree)
         fixups = omega (arith, h.fixups, room.fixups);
       })
       first in
-      let sum = moved h.start h.after (at_first v) again.1 reach.added v.node again.3 h.nodes h.leaves h.exports h.fixups in (
+      let sum =
+      moved h.start h.after (at_first v) again.1 reach.added v.node again.3 h.nodes h.leaves
+      h.exports h.fixups in (
         again.0,
         go again.0 again.1 sum
             (tree_in ns limit (in_path above path) path x (at_first v))
-            (front_tree (source ns) (room_in limit above path) (in_path above path) path x (at_first v) ∙ again.2),
+            (front_tree (source ns) (room_in limit above path) (in_path above path) path x
+            (at_first v) ∙ again.2),
       )
     where
       go : (u : Term) (b : Visit) → record b { node = v.node } ≡ with_added reach.added v
@@ -198,5 +220,6 @@ module _ (ns : Space) (limit : ℕ) (above : List Name) (path : Name) (x : Tree)
           → and_on y (λ c z. Ok (c, record z { node = v.node })) ≡ Ok (u, with_added reach.added v)
       go u b sum (Ok r) e =
           let pair : r ≡ (u, b) = cc in
-          ap (λ (q : Term × Visit). Ok (q.0, record q.1 { node = v.node })) pair ∙ (λ i. Ok (u, sum i))
+          ap (λ (q : Term × Visit). Ok (q.0, record q.1 { node = v.node })) pair
+          ∙ (λ i. Ok (u, sum i))
       go u b sum (Err f) e = cc

@@ -45,7 +45,8 @@ pub record IsThere (ns : Space) (blueprint : BlueprintAt) : Type 0 where
   pub entry : look_up ns blueprint.path.now ≡ Some blueprint.found.now
   pub opens : source ns blueprint.path.now ≡ Some (Blueprint (tree_of blueprint.image.now.body))
 
--- a path that is named here is gone to as expansion goes to it, under any limit on blueprints inside
+-- a path that is named here is gone to as expansion goes to it, under any limit on blueprints
+-- inside
 -- one another that the walk hasn't passed
 abbrev pub GoesTo : Place → Bool → Name → Result Part (Fault Refusal) → Walk → Walk → Type 0
 GoesTo place counted path result before after =

@@ -1,5 +1,6 @@
 -- The term of an object's path where nothing else is published.
-use Rattle.std.proofs.Common.{◌≡◌, ℕ, zero, suc, ◌+◌, ◌≤◌, Bool, true, false, [], ◌∷◌, Option, Some, None, Ok, Err}
+use Rattle.std.proofs.Common.{◌≡◌, ℕ, zero, suc, ◌+◌, ◌≤◌, Bool, true, false, [], ◌∷◌, Option, Some}
+use Rattle.std.proofs.Common.{None, Ok, Err}
 use Rattle.std.proofs.Common.{refl, sym, ap, ◌∙◌, subst, cond, length, arith}
 use Rattle.std.specs.Prelude.{nat_le}
 use Rattle.std.specs.List.{cons_option}
@@ -9,7 +10,9 @@ use Rattle.omos_model.specs.FragmentParts.{FragmentParts, IsFragment, is_in_boun
 use Rattle.omos_model.specs.Names.{Name}
 use Rattle.omos_model.specs.Namespace.{Space, look_up}
 use Rattle.omos_model.specs.Term.{Term, Leaf}
-use Rattle.omos_model.specs.Expansion.{Source, Object, Visited, add_read, entered, expand, first_visit, leaf, opened, site_of, source, source_of, too_deep, unless_cycle}
+use Rattle.omos_model.specs.Expansion.{Source, Object, Visited, add_read, entered, expand}
+use Rattle.omos_model.specs.Expansion.{first_visit, leaf, opened, site_of, source, source_of}
+use Rattle.omos_model.specs.Expansion.{too_deep, unless_cycle}
 use Rattle.omos_model.specs.Footprint.{footprint_of}
 use Rattle.omos_model.specs.declared.entry.Entry.{Entry}
 use Rattle.omos_model.specs.declared.entry.Entry.TheVariants as entry
@@ -37,7 +40,8 @@ few_exports f h =
     let pieces = and_parts _ _ spots.0 in
     let counts = and_parts _ _ pieces.0 in
     let two = and_parts _ _ counts.0 in
-    let exports = and_parts (nat_le (length f.pieces) 69631) (nat_le (length f.exports) 65535) two.0 in
+    let exports =
+    and_parts (nat_le (length f.pieces) 69631) (nat_le (length f.exports) 65535) two.0 in
     leb-true (length f.exports) 65535 exports.1
 
 few_fixups : (f : FragmentParts) → IsFragment f → length f.fixups ≤ 65535
@@ -81,7 +85,8 @@ expand_object p f room ns zero e =
     ap (λ o. entered (λ x. unless_cycle [] p p (too_deep p p)) false p p o first_visit) e
     ∙ leaf_is f (site_of p 0) (add_read p first_visit) room
 expand_object p f room ns (suc n) e =
-    ap (λ o. entered (λ x. unless_cycle [] p p (opened (expand ns n (p ∷ []) true p) false p p x)) false p p o first_visit) e
+    ap (λ o. entered (λ x. unless_cycle [] p p (opened (expand ns n (p ∷ []) true p) false p p x))
+    false p p o first_visit) e
     ∙ leaf_is f (site_of p 0) (add_read p first_visit) room
 
 lone_term : (p : Name) (f : FragmentParts) → IsFragment f
@@ -117,5 +122,6 @@ is_table_of table p ns start e twin h same stands at begins =
       stands (site_of p 0) f (same ∙ h.1),
       subst (λ (ts : Terms). IsTermOf p ns ts (term_of p f) v)
           (ap (λ (s : Start). terms_with s 0x400000 0x40000000) (sym begins))
-          (subst (λ (space : Space). IsTermOf p space (terms_of (entry.Object f)) (term_of p f) v) made term),
+          (subst (λ (space : Space). IsTermOf p space (terms_of (entry.Object f)) (term_of p f) v)
+          made term),
     )

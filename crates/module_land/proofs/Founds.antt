@@ -11,13 +11,15 @@ use Rattle.link_model.specs.declared.evaluated.Found.{Found}
 abbrev pub found_of : Name × Target → Found
 found_of e = record { name = e.0; target = e.1 }
 
--- what is found is what is meaning_in
-pub found_held : (es : List (Name × Target)) (n : Name) → found (map found_of es) n ≡ meaning_in es n
+-- what is found is what is held
+pub found_held : (es : List (Name × Target)) (n : Name)
+    → found (map found_of es) n ≡ meaning_in es n
 found_held [] n = refl
 found_held (e ∷ es) n = go (same_name n e.0) (found_held es n)
   where
     go : (b : Bool) → found (map found_of es) n ≡ meaning_in es n
-        → option_map (λ (x : Found). x.target) (cond b (Some (found_of e)) (find (λ x. same_name n x.name) (map found_of es)))
+        → option_map (λ (x : Found). x.target)
+        (cond b (Some (found_of e)) (find (λ x. same_name n x.name) (map found_of es)))
         ≡ cond b (Some e.1) (meaning_in es n)
     go true h = refl
     go false h = h

@@ -12,7 +12,8 @@ use Rattle.omos_model.specs.Tree as tree
 use Rattle.omos_model.specs.Expansion.{Source, Visited, add_read}
 use Rattle.omos_model.specs.Visit.{Visit}
 use Rattle.module_share.specs.Shifted.{raised, shifted}
-use Rattle.module_share.specs.Places.{AllNamed, AnywhereLaw, HasRoomFor, IsMoved, SameTermLaw, tree_at}
+use Rattle.module_share.specs.Places.{AllNamed, AnywhereLaw, HasRoomFor, IsMoved, SameTermLaw}
+use Rattle.module_share.specs.Places.{tree_at}
 use Rattle.module_share.proofs.Growth.{Grows, has_room, after_begin, after_leaf}
 use Rattle.module_share.proofs.Twice.{Again, Ways, tree_again}
 
@@ -49,8 +50,11 @@ Any p = Unit {0}
 -- the 256th leaf has the last number
 few_leaves : (w : Visit) (f : FragmentParts) → has_room w f ≡ true → w.leaves < 256
 few_leaves w f h =
-    let both = and_parts (nat_lt w.leaves 256 && nat_le (w.exports + length f.exports) 524288) (nat_le (w.fixups + length f.fixups) 524288) h in
-    let first = and_parts (nat_lt w.leaves 256) (nat_le (w.exports + length f.exports) 524288) both.0 in
+    let both =
+    and_parts (nat_lt w.leaves 256 && nat_le (w.exports + length f.exports) 524288)
+    (nat_le (w.fixups + length f.fixups) 524288) h in
+    let first =
+    and_parts (nat_lt w.leaves 256) (nat_le (w.exports + length f.exports) 524288) both.0 in
     ltb-true w.leaves 256 first.0
 
 next_raised : (k v w : ℕ) → w ≡ raised k v → w < 256 → w + 1 ≡ raised k (v + 1)
@@ -66,7 +70,10 @@ same_ways k = record {
   begun = λ v w m. record { node = ap (λ n. n + 1) m.node; leaves = m.leaves };
   begins = λ v w m f. absurd f;
   left = λ f v w m room.
-      record { node = m.node; leaves = next_raised k v.leaves w.leaves m.leaves (few_leaves w f room) };
+      record {
+        node = m.node;
+        leaves = next_raised k v.leaves w.leaves m.leaves (few_leaves w f room);
+      };
   leaves = λ f v w m h. absurd h;
   inside = λ v w m. record { node = refl; leaves = m.leaves };
   outside = λ v w u x m n. record { node = m.node; leaves = n.leaves };
@@ -90,10 +97,15 @@ all_named (tree.Apply op x) = all_named x
 pub same_term_law : SameTermLaw
 same_term_law ns room more above other at x k v w a b t u node leaves first second =
     let again =
-    tree_again (IsShifted k) (SameAt k) Never Any (same_ways k) ns (λ p y d e. all_named y) room more above other (λ z f. absurd f) (λ z f. absurd f) at x (all_named x) v w
+    tree_again (IsShifted k) (SameAt k) Never Any (same_ways k) ns (λ p y d e. all_named y) room
+    more above other (λ z f. absurd f) (λ z f. absurd f) at x (all_named x) v w
     (record { node = node; leaves = leaves }) in
-    let half = subst (λ (z : Visited Term). Again (IsShifted k) (SameAt k) Never z (tree_at ns more other at x w)) first again in
-    let whole = subst (λ (z : Visited Term). Again (IsShifted k) (SameAt k) Never (Ok (t, a)) z) second half in
+    let half =
+    subst (λ (z : Visited Term). Again (IsShifted k) (SameAt k) Never z
+    (tree_at ns more other at x w)) first again in
+    let whole =
+    subst (λ (z : Visited Term). Again (IsShifted k) (SameAt k) Never (Ok (t, a)) z) second
+    half in
     (whole.0, whole.1.node, whole.1.leaves)
 
 -- ---- anywhere
@@ -101,7 +113,8 @@ same_term_law ns room more above other at x k v w a b t u node leaves first seco
 abbrev Whatever : Term → Term → Type 0
 Whatever t u = Unit {0}
 
-module _ (o p : Visit) (D : Name → Type 0) (known : (q : Name) → D q → is_among p.read q ≡ true) where
+module _ (o p : Visit) (D : Name → Type 0) (known : (q : Name) → D q
+    → is_among p.read q ≡ true) where
   read_known : (q : Name) (v : Visit) → D q → v.read ≡ p.read → (add_read q v).read ≡ p.read
   read_known q v d e = go (is_among v.read q) (ap (λ qs. is_among qs q) e ∙ known q d)
     where
@@ -136,8 +149,11 @@ module _ (o p : Visit) (D : Name → Type 0) (known : (q : Name) → D q → is_
           read = m.read;
         };
     leaves = λ f v w m h.
-        and_from (nat_lt w.leaves 256 && nat_le (w.exports + length f.exports) 524288) (nat_le (w.fixups + length f.fixups) 524288)
-        (and_from (nat_lt w.leaves 256) (nat_le (w.exports + length f.exports) 524288) (lt-ltb w.leaves 256 (omega (arith, m.leaves, h.leaves))) (le-leb (w.exports + length f.exports) 524288 (omega (arith, m.exports, h.exports))))
+        and_from (nat_lt w.leaves 256 && nat_le (w.exports + length f.exports) 524288)
+        (nat_le (w.fixups + length f.fixups) 524288)
+        (and_from (nat_lt w.leaves 256) (nat_le (w.exports + length f.exports) 524288)
+        (lt-ltb w.leaves 256 (omega (arith, m.leaves, h.leaves)))
+        (le-leb (w.exports + length f.exports) 524288 (omega (arith, m.exports, h.exports))))
         (le-leb (w.fixups + length f.fixups) 524288 (omega (arith, m.fixups, h.fixups)));
     inside = λ v w m.
         record {
@@ -181,7 +197,9 @@ pub anywhere_law : AnywhereLaw
 anywhere_law ns done room more above other at x o a w t closed all known free le node fits first =
     let D : Name → Type 0 = λ q. done q ≡ true in
     let again =
-    tree_again Whatever (λ v b. IsMoved o v w b) (λ v. HasRoomFor o v w) D (anywhere_ways o w D known) ns closed room more above other (λ z f. le) (λ z f. free) at x all o w
+    tree_again Whatever (λ v b. IsMoved o v w b) (λ v. HasRoomFor o v w) D
+    (anywhere_ways o w D known) ns closed room more above other (λ z f. le) (λ z f. free) at x
+    all o w
     (record {
       node = node;
       nodes = omega arith;
@@ -191,7 +209,8 @@ anywhere_law ns done room more above other at x o a w t closed all known free le
       read = refl;
     }) in
     go (tree_at ns more other at x w) refl
-    (subst (λ (z : Visited Term). Again Whatever (λ v b. IsMoved o v w b) (λ v. HasRoomFor o v w) z (tree_at ns more other at x w)) first again)
+    (subst (λ (z : Visited Term). Again Whatever (λ v b. IsMoved o v w b) (λ v. HasRoomFor o v w) z
+    (tree_at ns more other at x w)) first again)
   where
     go : (y : Visited Term) → tree_at ns more other at x w ≡ y
         → Again Whatever (λ v b. IsMoved o v w b) (λ v. HasRoomFor o v w) (Ok (t, a)) y

@@ -10,13 +10,16 @@ use Rattle.omos_model.specs.Tree.{Tree}
 use Rattle.omos_model.specs.Tree as tree
 use Rattle.omos_model.specs.Expansion.{Source, Object, Blueprint, Visited, Visitor, and_then, begin}
 use Rattle.omos_model.specs.Expansion.{leaf, both, one, visit, here, add_read, begin_path, nested}
-use Rattle.omos_model.specs.Expansion.{entered, unless_cycle, too_deep, opened, expand, source, first_visit}
+use Rattle.omos_model.specs.Expansion.{entered, unless_cycle, too_deep, opened, expand, source}
+use Rattle.omos_model.specs.Expansion.{first_visit}
 use Rattle.omos_model.specs.declared.refusal.Refusal.{Refusal}
 use Rattle.omos_model.specs.declared.refusal.Refusal.TheVariants.{Cycle, TooDeep}
 use Rattle.omos_model.specs.declared.refusal.Site.{Site}
 use Rattle.omos_model.specs.Visit.{Visit}
-use Rattle.module_share.specs.Trails.{Trail, Trailer, front, step, and_on, begin_on, leaf_on, both_on}
-use Rattle.module_share.specs.Trails.{one_on, visit_on, begin_path_on, nested_on, entered_on, FrontLaw}
+use Rattle.module_share.specs.Trails.{Trail, Trailer, front, step, and_on, begin_on, leaf_on}
+use Rattle.module_share.specs.Trails.{both_on}
+use Rattle.module_share.specs.Trails.{one_on, visit_on, begin_path_on, nested_on, entered_on}
+use Rattle.module_share.specs.Trails.{FrontLaw}
 use Rattle.module_share.specs.Trails.{unless_cycle_on, too_deep_on, opened_on, expand_on}
 
 -- the front of what a part gives
@@ -43,7 +46,8 @@ front_one : (join : Term → Term) (x : Trailer Term) (v : Visit)
 front_one join x v = front_and (x v) (λ t w. Ok (join t, w))
 
 -- what follows a step
-front_begun : {A B : Type 0} (v : Visit) (x : Visited A) (more : A → Trailer B) (less : A → Visitor B)
+front_begun : {A B : Type 0} (v : Visit) (x : Visited A) (more : A → Trailer B) (less : A
+    → Visitor B)
     → ((a : A) (w : Visit) → front (more a w) ≡ less a w)
     → front (and_on (step v x) more) ≡ and_then x less
 front_begun v x more less h =
@@ -59,9 +63,11 @@ front_visit at path (tree.Merge l r) v =
     ∙ (λ i. both (Merge s) (λ u. front_visit at path l u i) (λ u. front_visit at path r u i) w))
 front_visit at path (tree.More l r) v =
     front_both (Merge (here at v)) (visit_on at path l) (visit_on at path r) v
-    ∙ (λ i. both (Merge (here at v)) (λ u. front_visit at path l u i) (λ u. front_visit at path r u i) v)
+    ∙ (λ i. both (Merge (here at v)) (λ u. front_visit at path l u i)
+    (λ u. front_visit at path r u i) v)
 front_visit at path (tree.Override l r) v =
-    front_begun v (begin at v) (λ s. both_on (Override s) (visit_on at path l) (visit_on at path r)) _
+    front_begun v (begin at v) (λ s. both_on (Override s) (visit_on at path l) (visit_on at path r))
+    _
     (λ s w. front_both (Override s) (visit_on at path l) (visit_on at path r) w
     ∙ (λ i. both (Override s) (λ u. front_visit at path l u i) (λ u. front_visit at path r u i) w))
 front_visit at path (tree.Apply op x) v =
@@ -69,7 +75,8 @@ front_visit at path (tree.Apply op x) v =
     (λ s w. front_one (Apply s op) (visit_on at path x) w
     ∙ (λ i. one (Apply s op) (λ u. front_visit at path x u i) w))
 
-front_nested : (x : Trailer Term) (y : Visitor Term) → ((v : Visit) → front (x v) ≡ y v) → (v : Visit)
+front_nested : (x : Trailer Term) (y : Visitor Term) → ((v : Visit) → front (x v) ≡ y v)
+    → (v : Visit)
     → front (nested_on x v) ≡ nested y v
 front_nested x y h v =
     front_and (x (record v { node = 0 })) (λ t w. Ok (t, record w { node = v.node }))
@@ -88,7 +95,8 @@ front_unless : (above : List Name) (at p : Name) (x : Trailer Term) (y : Visitor
     → front (x v) ≡ y v → front (unless_cycle_on above at p x v) ≡ unless_cycle above at p y v
 front_unless above at p x y v h = go (is_among above p)
   where
-    go : (b : Bool) → front (cond b (Err (Cycle (here at v) p, v)) (x v)) ≡ cond b (Err (Cycle (here at v) p)) (y v)
+    go : (b : Bool) → front (cond b (Err (Cycle (here at v) p, v)) (x v))
+        ≡ cond b (Err (Cycle (here at v) p)) (y v)
     go true = refl
     go false = h
 
@@ -104,14 +112,17 @@ front_expand ns (suc room) above counts at p v =
     let plain = expand ns room (above ++ p ∷ []) true p in
     front_entered _ _ counts at p v (ns p)
     (λ x. front_unless above at p (opened_on inner counts at p x) (opened plain counts at p x) v
-    (front_begun (add_read p v) (begin_path counts at (add_read p v)) (λ s. nested_on (visit_on p inner x)) (λ s. nested (visit p plain x))
+    (front_begun (add_read p v) (begin_path counts at (add_read p v))
+    (λ s. nested_on (visit_on p inner x)) (λ s. nested (visit p plain x))
     (λ s w. front_nested (visit_on p inner x) (visit p plain x)
     (λ u. front_visit p inner x u
     ∙ (λ i. visit p (λ q z. front_expand ns room (above ++ p ∷ []) true p q z i) x u)) w)))
 
 -- an expression of a blueprint
-pub front_tree : (ns : Name → Option Source) (room : ℕ) (above : List Name) (at : Name) (x : Tree) (v : Visit)
-    → front (visit_on at (expand_on ns room above true at) x v) ≡ visit at (expand ns room above true at) x v
+pub front_tree : (ns : Name → Option Source) (room : ℕ) (above : List Name) (at : Name) (x : Tree)
+    (v : Visit)
+    → front (visit_on at (expand_on ns room above true at) x v)
+    ≡ visit at (expand ns room above true at) x v
 front_tree ns room above at x v =
     front_visit at (expand_on ns room above true at) x v
     ∙ (λ i. visit at (λ q z. front_expand ns room above true at q z i) x v)

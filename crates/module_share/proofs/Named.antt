@@ -36,7 +36,8 @@ add_read_stay p v q h = go (is_among v.read p)
   where
     go : (b : Bool) → is_among (cond b v (record v { read = v.read ++ p ∷ [] })).read q ≡ true
     go true = h
-    go false = list_any-append (same_name q) v.read (p ∷ []) ∙ or_left (is_among v.read q) (list_any (same_name q) (p ∷ [])) h
+    go false = list_any-append (same_name q) v.read (p ∷ [])
+        ∙ or_left (is_among v.read q) (list_any (same_name q) (p ∷ [])) h
 
 pub add_read_here : (p : Name) (v : Visit) → is_among (add_read p v).read p ≡ true
 add_read_here p v = go (is_among v.read p) refl
@@ -46,7 +47,8 @@ add_read_here p v = go (is_among v.read p) refl
     go true e = e
     go false e =
         list_any-append (same_name p) v.read (p ∷ [])
-        ∙ or_right (is_among v.read p) (list_any (same_name p) (p ∷ [])) (or_left (same_name p p) false (same_name-refl p p refl))
+        ∙ or_right (is_among v.read p) (list_any (same_name p) (p ∷ []))
+        (or_left (same_name p p) false (same_name-refl p p refl))
 
 -- ---- a path
 
@@ -108,7 +110,8 @@ module _ (ns : Name → Option Source) where
           free : (x : Tree) → ns p ≡ Some (Blueprint x) → (b : Bool) → is_among above p ≡ b
               → is_among above p ≡ false
           free x e false f = f
-          free x e true f = let barred = sym is ∙ open_here room above at p v x e f in absurd (let no = barred in cc)
+          free x e true f = let barred = sym is ∙ open_here room above at p v x e f in
+              absurd (let no = barred in cc)
 
 -- ---- an expression
 
@@ -139,7 +142,8 @@ both_step A B join l r on hl hr v = left (l v) (hl v)
     right t w stay h (Ok s) k = (λ q i. k.0 q (stay q i), (on w.read s.1.read k.0 h, k.1))
 
     left : (y : Visited Term) → Step A v y
-        → Step (λ read. A read × B read) v (and_then y (λ t w. and_then (r w) (λ u x. Ok (join t u, x))))
+        → Step (λ read. A read × B read) v
+        (and_then y (λ t w. and_then (r w) (λ u x. Ok (join t u, x))))
     left (Err e) h = tt
     left (Ok s) h = right s.0 s.1 h.0 h.1 (r s.1) (hr s.1)
 
@@ -170,12 +174,15 @@ module _ (ns : Name → Option Source) (room : ℕ) (above : List Name) (at : Na
   tree_step (tree.Path p) v = path_step ns room above at p v
   tree_step (tree.Merge l r) v =
       begun_step (AllOpened ns above (tree.Merge l r)) at _
-      (λ s. both_step (AllOpened ns above l) (AllOpened ns above r) (Merge s) _ _ (λ old new. later ns above old new l) (tree_step l) (tree_step r)) v
+      (λ s. both_step (AllOpened ns above l) (AllOpened ns above r) (Merge s) _ _
+      (λ old new. later ns above old new l) (tree_step l) (tree_step r)) v
   tree_step (tree.More l r) v =
-      both_step (AllOpened ns above l) (AllOpened ns above r) (Merge (here at v)) _ _ (λ old new. later ns above old new l) (tree_step l) (tree_step r) v
+      both_step (AllOpened ns above l) (AllOpened ns above r) (Merge (here at v)) _ _
+      (λ old new. later ns above old new l) (tree_step l) (tree_step r) v
   tree_step (tree.Override l r) v =
       begun_step (AllOpened ns above (tree.Override l r)) at _
-      (λ s. both_step (AllOpened ns above l) (AllOpened ns above r) (Override s) _ _ (λ old new. later ns above old new l) (tree_step l) (tree_step r)) v
+      (λ s. both_step (AllOpened ns above l) (AllOpened ns above r) (Override s) _ _
+      (λ old new. later ns above old new l) (tree_step l) (tree_step r)) v
   tree_step (tree.Apply op x) v =
       begun_step (AllOpened ns above (tree.Apply op x)) at _
       (λ s. one_step (AllOpened ns above x) (Apply s op) _ (tree_step x)) v

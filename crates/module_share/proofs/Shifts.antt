@@ -65,26 +65,33 @@ module _ (k : ℕ) where
   moved : Meaning → Meaning
   moved u n = option_map (shifted_target k) (u n)
 
-  target_moved : (leaf : ℕ) (s : Spot) → target_of (raised k leaf) s ≡ shifted_target k (target_of leaf s)
+  target_moved : (leaf : ℕ) (s : Spot)
+      → target_of (raised k leaf) s ≡ shifted_target k (target_of leaf s)
   target_moved leaf (spot.Inside piece offset) = refl
   target_moved leaf (spot.Fixed value) = refl
 
   exported_moved : (leaf : ℕ) (xs : List Export) (n : Name)
       → exported (raised k leaf) xs n ≡ option_map (shifted_target k) (exported leaf xs n)
   exported_moved leaf xs n =
-      mapped_twice (λ (x : Export). target_of leaf x.spot) (shifted_target k) (λ (x : Export). target_of (raised k leaf) x.spot)
+      mapped_twice (λ (x : Export). target_of leaf x.spot) (shifted_target k)
+      (λ (x : Export). target_of (raised k leaf) x.spot)
       (λ x. target_moved leaf x.spot) (find (λ x. same_name n x.name) xs)
 
   defined_moved : (op : Op) (u : Meaning) (n : Name)
       → defined_by op (λ m. option_map (shifted_target k) (u m)) n
       ≡ option_map (shifted_target k) (defined_by op u n)
   defined_moved (Rename a b) u n =
-      ap (λ c. cond c (cond (same_name b n) (option_map (shifted_target k) (u a)) (cond (same_name a n) None (option_map (shifted_target k) (u n)))) (option_map (shifted_target k) (u n)))
+      ap (λ c. cond c
+      (cond (same_name b n) (option_map (shifted_target k) (u a))
+      (cond (same_name a n) None (option_map (shifted_target k) (u n))))
+      (option_map (shifted_target k) (u n)))
       (some_mapped (shifted_target k) (u a))
       ∙ ap (λ o. cond (is_some (u a)) o (option_map (shifted_target k) (u n)))
-      (ap (λ o. cond (same_name b n) (option_map (shifted_target k) (u a)) o) (cond_mapped (shifted_target k) (same_name a n) None (u n))
+      (ap (λ o. cond (same_name b n) (option_map (shifted_target k) (u a)) o)
+      (cond_mapped (shifted_target k) (same_name a n) None (u n))
       ∙ cond_mapped (shifted_target k) (same_name b n) (u a) (cond (same_name a n) None (u n)))
-      ∙ cond_mapped (shifted_target k) (is_some (u a)) (cond (same_name b n) (u a) (cond (same_name a n) None (u n))) (u n)
+      ∙ cond_mapped (shifted_target k) (is_some (u a))
+      (cond (same_name b n) (u a) (cond (same_name a n) None (u n))) (u n)
   defined_moved (Restrict a) u n = cond_mapped (shifted_target k) (same_name a n) None (u n)
   defined_moved (Freeze a) u n = refl
   defined_moved (Hide a) u n = cond_mapped (shifted_target k) (same_name a n) None (u n)
@@ -121,7 +128,8 @@ module _ (k : ℕ) where
   cond_mark false l m = refl
 
   opened_moved : (op : Op) (u : Meaning) (x : Name)
-      → opened_by op (λ m. option_map (shifted_target k) (u m)) x ≡ shifted_mark k (opened_by op u x)
+      → opened_by op (λ m. option_map (shifted_target k) (u m)) x
+      ≡ shifted_mark k (opened_by op u x)
   opened_moved (Rename a b) u x = cond_mark (same_name a x) (Open b) (Open x)
   opened_moved (Restrict a) u x = refl
   opened_moved (Freeze a) u x =
@@ -147,13 +155,17 @@ module _ (k : ℕ) where
   row_moved op u r = λ i. record r { number = raised k r.number; marks = marks i }
     where
       marks : map (shifted_mark k) (map (marked_by op u) r.marks)
-          ≡ map (marked_by op (λ n. option_map (shifted_target k) (u n))) (map (shifted_mark k) r.marks)
+          ≡ map (marked_by op (λ n. option_map (shifted_target k) (u n)))
+          (map (shifted_mark k) r.marks)
       marks =
-          sym (map_twice (marked_by op u) (shifted_mark k) (λ m. shifted_mark k (marked_by op u m)) (λ m. refl) r.marks)
-          ∙ map_twice (shifted_mark k) (marked_by op (λ n. option_map (shifted_target k) (u n))) (λ m. shifted_mark k (marked_by op u m)) (λ m. sym (marked_moved op u m)) r.marks
+          sym (map_twice (marked_by op u) (shifted_mark k) (λ m. shifted_mark k (marked_by op u m))
+          (λ m. refl) r.marks)
+          ∙ map_twice (shifted_mark k) (marked_by op (λ n. option_map (shifted_target k) (u n)))
+          (λ m. shifted_mark k (marked_by op u m)) (λ m. sym (marked_moved op u m)) r.marks
 
   rows_moved : (op : Op) (u : Meaning) (rows : List MarkRow)
-      → map (remarked (marked_by op (λ n. option_map (shifted_target k) (u n)))) (map (shifted_row k) rows)
+      → map (remarked (marked_by op (λ n. option_map (shifted_target k) (u n))))
+      (map (shifted_row k) rows)
       ≡ map (shifted_row k) (map (remarked (marked_by op u)) rows)
   rows_moved op u [] = refl
   rows_moved op u (r ∷ rows) = λ i. sym (row_moved op u r) i ∷ rows_moved op u rows i
@@ -166,12 +178,15 @@ module _ (k : ℕ) where
       marks : map (λ (x : Fixup). mark_of (raised k number) x.aim) f.fixups
           ≡ map (shifted_mark k) (map (λ (x : Fixup). mark_of number x.aim) f.fixups)
       marks =
-          map_twice (λ (x : Fixup). mark_of number x.aim) (shifted_mark k) (λ (x : Fixup). mark_of (raised k number) x.aim)
+          map_twice (λ (x : Fixup). mark_of number x.aim) (shifted_mark k)
+          (λ (x : Fixup). mark_of (raised k number) x.aim)
           (λ x. mark_moved number x.aim) f.fixups
   states_shifted (Merge s l r) =
-      (λ i. states_shifted l i ++ states_shifted r i) ∙ map_both (shifted_row k) (states l) (states r)
+      (λ i. states_shifted l i ++ states_shifted r i)
+      ∙ map_both (shifted_row k) (states l) (states r)
   states_shifted (Override s l r) =
-      (λ i. states_shifted l i ++ states_shifted r i) ∙ map_both (shifted_row k) (states l) (states r)
+      (λ i. states_shifted l i ++ states_shifted r i)
+      ∙ map_both (shifted_row k) (states l) (states r)
   states_shifted (Apply s op u) =
       (λ i. map (remarked (marked_by op (λ n. definition_shifted u n i))) (states_shifted u i))
       ∙ rows_moved op (definition u) (states u)
@@ -201,19 +216,27 @@ module _ (k : ℕ) where
       → refused_by s op (λ n. option_map (shifted_target k) (u n)) test ≡ refused_by s op u test
   refused_moved s (Rename a b) u test =
       λ i.
-      option_or (cond (not (some_mapped (shifted_target k) (u a) i) && not (test a)) (Some (refusal.NoName s a)) None)
-      (cond (not (same_name a b) && some_mapped (shifted_target k) (u a) i && some_mapped (shifted_target k) (u b) i) (Some (refusal.Taken s b)) None)
+      option_or
+      (cond (not (some_mapped (shifted_target k) (u a) i) && not (test a))
+      (Some (refusal.NoName s a)) None)
+      (cond (not (same_name a b) && some_mapped (shifted_target k) (u a) i
+      && some_mapped (shifted_target k) (u b) i) (Some (refusal.Taken s b)) None)
   refused_moved s (Restrict a) u test =
-      λ i. cond (not (some_mapped (shifted_target k) (u a) i)) (Some (refusal.NoDefinition s a)) None
+      λ i. cond (not (some_mapped (shifted_target k) (u a) i)) (Some (refusal.NoDefinition s a))
+      None
   refused_moved s (Freeze a) u test =
-      λ i. cond (not (some_mapped (shifted_target k) (u a) i)) (Some (refusal.NoDefinition s a)) None
+      λ i. cond (not (some_mapped (shifted_target k) (u a) i)) (Some (refusal.NoDefinition s a))
+      None
   refused_moved s (Hide a) u test =
-      λ i. cond (not (some_mapped (shifted_target k) (u a) i)) (Some (refusal.NoDefinition s a)) None
+      λ i. cond (not (some_mapped (shifted_target k) (u a) i)) (Some (refusal.NoDefinition s a))
+      None
   refused_moved s (Show names) u test =
       ap (option_map (refusal.NoDefinition s)) (find_missing u names)
   refused_moved s (CopyAs a b) u test =
       λ i.
-      option_or (cond (not (some_mapped (shifted_target k) (u a) i)) (Some (refusal.NoDefinition s a)) None)
+      option_or
+      (cond (not (some_mapped (shifted_target k) (u a) i)) (Some (refusal.NoDefinition s a))
+      None)
       (cond (some_mapped (shifted_target k) (u b) i) (Some (refusal.Taken s b)) None)
 
   written_shifted : (t : Term) → written (shifted k t) ≡ written t
@@ -236,7 +259,8 @@ module _ (k : ℕ) where
   first_refusal_shifted (Merge s l r) =
       λ i.
       option_or (first_refusal_shifted l i)
-      (option_or (first_refusal_shifted r i) (option_map (refusal.Conflict s) (conflict_shifted l r i)))
+      (option_or (first_refusal_shifted r i)
+      (option_map (refusal.Conflict s) (conflict_shifted l r i)))
   first_refusal_shifted (Override s l r) =
       λ i. option_or (first_refusal_shifted l i) (first_refusal_shifted r i)
   first_refusal_shifted (Apply s op u) =

@@ -13,7 +13,8 @@ use Rattle.omos_model.specs.declared.entry.Stamped.{Stamped}
 use Rattle.omos_model.proofs.Names.{is_eq-name_cmp}
 use Rattle.omos_model.proofs.Spaces.{Above, paths}
 use Rattle.name_tree.specs.Order.{IsInOrder, place}
-use Rattle.name_tree.specs.Tree.{joined_pages, AreFilled, entries_of, IsTree, begun, part_at, parted}
+use Rattle.name_tree.specs.Tree.{joined_pages, AreFilled, entries_of, IsTree, begun, part_at}
+use Rattle.name_tree.specs.Tree.{parted}
 use Rattle.name_tree.specs.Tree.{pages_with}
 use Rattle.name_tree.proofs.Places.{turned}
 use Rattle.name_tree.proofs.Parts.{Below, AreSome, filled-some, in_order-right, in_order-left}
@@ -92,13 +93,15 @@ look_up-part ps p f o =
     ∙ look_up-between p (joined_pages (take (part_at ps p) ps)) (get_or ps (part_at ps p) [])
     (joined_pages (drop (suc (part_at ps p)) ps)) (before-part p ps f o) (after-part p ps f o)
 
-pub in_order-part : (ps : List Space) (k : ℕ) → IsInOrder (joined_pages ps) → IsInOrder (get_or ps k [])
+pub in_order-part : (ps : List Space) (k : ℕ) → IsInOrder (joined_pages ps)
+    → IsInOrder (get_or ps k [])
 in_order-part ps k o =
     in_order-left (get_or ps k []) (joined_pages (drop (suc k) ps))
     (in_order-right (joined_pages (take k ps)) (get_or ps k [] ++ joined_pages (drop (suc k) ps))
     (subst IsInOrder (joined-split ps k) o))
 
-pub joined-append : (ps qs : List Space) → joined_pages (ps ++ qs) ≡ joined_pages ps ++ joined_pages qs
+pub joined-append : (ps qs : List Space)
+    → joined_pages (ps ++ qs) ≡ joined_pages ps ++ joined_pages qs
 joined-append [] qs = refl
 joined-append (p ∷ ps) qs = ap (λ l. p ++ l) (joined-append ps qs)
     ∙ sym (append_assoc p (joined_pages ps) (joined_pages qs))
@@ -120,7 +123,8 @@ joined-with ps s f o =
     ∙ ap (λ l. l ++ joined_pages rest) (joined-append (take at ps) (parted (with_entry page s))
     ∙ ap (λ l. joined_pages (take at ps) ++ l) (joined-parted (with_entry page s)))
     ∙ append_assoc (joined_pages (take at ps)) (with_entry page s) (joined_pages rest)
-    ∙ sym (with_entry-between s (joined_pages (take at ps)) page (joined_pages rest) (before-part s.path ps f o)
+    ∙ sym (with_entry-between s (joined_pages (take at ps)) page (joined_pages rest)
+    (before-part s.path ps f o)
     (after-part s.path ps f o))
     ∙ ap (λ l. with_entry l s) (sym (joined-split ps at))
 
@@ -174,7 +178,8 @@ pub branch-in_order : (bs : List (List Space)) (k : ℕ) → IsInOrder (entries_
 branch-in_order bs k o = subst IsInOrder (get-joined bs k) (in_order-part (map joined_pages bs) k o)
 
 pub look_up-branch : (bs : List (List Space)) (p : Name) → IsTree bs
-    → look_up (entries_of bs) p ≡ look_up (joined_pages (get_or bs (part_at (map joined_pages bs) p) [])) p
+    → look_up (entries_of bs) p
+    ≡ look_up (joined_pages (get_or bs (part_at (map joined_pages bs) p) [])) p
 look_up-branch bs p t =
     look_up-part (map joined_pages bs) p (tree-some bs t) t.in_order
     ∙ ap (λ l. look_up l p) (get-joined bs (part_at (map joined_pages bs) p))

@@ -61,9 +61,12 @@ entries-with bs s t =
     let above : Above s.path (paths (entries_of rest)) =
     subst (λ l. Above s.path (paths (joined_pages l))) (map-drop joined_pages (suc at) bs)
     (after-part s.path (map joined_pages bs) (tree-some bs t) t.in_order) in
-    let split : entries_of bs ≡ entries_of (take at bs) ++ (joined_pages branch ++ entries_of rest) =
+    let split : entries_of bs ≡ entries_of (take at bs)
+    ++ (joined_pages branch ++ entries_of rest) =
     joined-split (map joined_pages bs) at
-    ∙ ap (λ l. joined_pages l ++ (get_or (map joined_pages bs) at [] ++ joined_pages (drop (suc at) (map joined_pages bs))))
+    ∙ ap (λ l. joined_pages l
+    ++ (get_or (map joined_pages bs) at []
+    ++ joined_pages (drop (suc at) (map joined_pages bs))))
     (map-take joined_pages at bs)
     ∙ ap (λ l. entries_of (take at bs) ++ (l ++ joined_pages (drop (suc at) (map joined_pages bs))))
     (get-joined bs at)
@@ -73,7 +76,8 @@ entries-with bs s t =
     ∙ ap (λ l. l ++ entries_of rest) (entries_of-append (take at bs) made
     ∙ ap (λ l. entries_of (take at bs) ++ l) (entries_of-parted (pages_with branch s) ∙ new))
     ∙ append_assoc (entries_of (take at bs)) (with_entry (joined_pages branch) s) (entries_of rest)
-    ∙ sym (with_entry-between s (entries_of (take at bs)) (joined_pages branch) (entries_of rest) below
+    ∙ sym (with_entry-between s (entries_of (take at bs)) (joined_pages branch) (entries_of rest)
+    below
     above)
     ∙ ap (λ l. with_entry l s) (sym split)
 
@@ -95,7 +99,8 @@ pub sum-page : (ps : List Space) → sum (map (λ p. length p) ps) ≡ length (j
 sum-page [] = refl
 sum-page (p ∷ ps) =
     let i : sum (map (λ p. length p) ps) ≡ length (joined_pages ps) = sum-page ps in
-    let l : length (p ++ joined_pages ps) ≡ length p + length (joined_pages ps) = length-append p (joined_pages ps) in
+    let l : length (p ++ joined_pages ps) ≡ length p + length (joined_pages ps) =
+    length-append p (joined_pages ps) in
     let g : length p + sum (map (λ p. length p) ps) ≡ length (p ++ joined_pages ps) =
     omega (arith, i, l) in
     sum-cons (length p) (map (λ p. length p) ps) ∙ g
@@ -106,7 +111,8 @@ sum-counts [] = refl
 sum-counts (b ∷ bs) =
     let i : sum (map (λ c. sum c) (page_counts bs)) ≡ length (entries_of bs) = sum-counts bs in
     let j : sum (map (λ p. length p) b) ≡ length (joined_pages b) = sum-page b in
-    let l : length (joined_pages b ++ entries_of bs) ≡ length (joined_pages b) + length (entries_of bs) =
+    let l : length (joined_pages b ++ entries_of bs)
+    ≡ length (joined_pages b) + length (entries_of bs) =
     length-append (joined_pages b) (entries_of bs) in
     let g : sum (map (λ p. length p) b) + sum (map (λ c. sum c) (page_counts bs))
     ≡ length (joined_pages b ++ entries_of bs) = omega (arith, i, j, l) in

@@ -6,7 +6,7 @@ use Rattle.std.proofs.Common.{subst, take_all}
 use Rattle.std.proofs.lemmas.List.{append-nil, length-take-le, length-drop, ext_get_or, get_or-take}
 use Rattle.std.proofs.lemmas.List.{get_or-drop}
 use Rattle.std.proofs.lemmas.List.{get_or_append_left, get_or-append_right, get_or_default}
-use Rattle.name_tree.specs.Few.{row_values, IsRow}
+use Rattle.name_tree.specs.inside.Few.{row_values, IsRow}
 
 split : (n k : ℕ) → (k < n) ⊎ (n ≤ k)
 split zero k = inr (omega arith)

@@ -73,7 +73,8 @@ eight : (at : ℕ) (xs ys : List ℕ) → at + 8 ≤ length xs → at + 8 ≤ le
     (nat_cmp (number_before 0 (take 8 (drop at xs))) (number_before 0 (take 8 (drop at ys))))
     (slice_cmp nat_cmp (drop (at + 8) xs) (drop (at + 8) ys))
 eight at xs ys p q a b =
-    let o = nat_cmp (number_before 0 (take 8 (drop at xs))) (number_before 0 (take 8 (drop at ys))) in
+    let o = nat_cmp (number_before 0 (take 8 (drop at xs)))
+    (number_before 0 (take 8 (drop at ys))) in
     words 0 0 8 (drop at xs) (drop at ys) (omega (arith, length-drop at xs))
     (omega (arith, length-drop at ys))
     (bytes_drop at xs a) (bytes_drop at ys b)
@@ -92,7 +93,8 @@ decided x y o n = go (nat_cmp x y) refl (ranked x y (nat_cmp x y) refl)
 
 pub word_decides : (at x y : ℕ) (xs ys : List ℕ) → at + 8 ≤ length xs → at + 8 ≤ length ys
     → AreBytes xs
-    → AreBytes ys → x ≡ number_before 0 (take 8 (drop at xs)) → y ≡ number_before 0 (take 8 (drop at ys))
+    → AreBytes ys → x ≡ number_before 0 (take 8 (drop at xs))
+    → y ≡ number_before 0 (take 8 (drop at ys))
     → x ≢ y
     → nat_lt x y ≡ is_lt (name_cmp (drop at xs) (drop at ys))
 word_decides at x y xs ys p q a b e f n =
@@ -108,7 +110,8 @@ level x y e = grind (arith, nat_tests, e)
 
 pub word_passes : (at x y : ℕ) (xs ys : List ℕ) → at + 8 ≤ length xs → at + 8 ≤ length ys
     → AreBytes xs
-    → AreBytes ys → x ≡ number_before 0 (take 8 (drop at xs)) → y ≡ number_before 0 (take 8 (drop at ys))
+    → AreBytes ys → x ≡ number_before 0 (take 8 (drop at xs))
+    → y ≡ number_before 0 (take 8 (drop at ys))
     → x ≡ y
     → name_cmp (drop (at + 8) xs) (drop (at + 8) ys) ≡ name_cmp (drop at xs) (drop at ys)
 word_passes at x y xs ys p q a b e f s =

@@ -1,7 +1,7 @@
 //! Up to 64 values in place.
 
 ghost use Rattle.std.specs.Prelude.{◌≡◌, ◌+◌, ◌<◌, ◌≤◌, ◌++◌, length, take, drop, get_or, IfOk, OnOk};
-ghost use Rattle.name_tree.specs.Few.{IsRow};
+ghost use Rattle.name_tree.specs.inside.Few.{IsRow};
 
 use omos_base::{NoMemory, Row, Shared};
 use omos_model::Stamped;
@@ -38,7 +38,7 @@ pub struct Few<T> {
 impl<T> Model for Few<T> {
     ghost use Rattle.std.specs.Prelude.{◌≡◌, ◌≤◌, List, length, take};
     ghost use Rattle.std.specs.Coded.{coded_list};
-    ghost use Rattle.name_tree.specs.Few.{row_values};
+    ghost use Rattle.name_tree.specs.inside.Few.{row_values};
 
     ghost Value = { List T };
 

@@ -1,5 +1,7 @@
--- A file has one output, and a source and a sink that tell their bytes leave one file and one output.
-use Rattle.std.proofs.Common.{◌≡◌, ◌≢◌, inl, inr, ℕ, ◌<◌, List, [], length, take, Option, None, Some, Ok, Err, refl, sym, ap, subst, ◌∙◌, arith}
+-- A file has one output, and a source and a sink that tell their bytes leave one file and one
+-- output.
+use Rattle.std.proofs.Common.{◌≡◌, ◌≢◌, inl, inr, ℕ, ◌<◌, List, [], length, take, Option, None}
+use Rattle.std.proofs.Common.{Some, Ok, Err, refl, sym, ap, subst, ◌∙◌, arith}
 use Rattle.std.specs.Io.KnownBytes.{Appends}
 use Rattle.std.proofs.lemmas.List.{append_cancel_left, append_cancel_right, append-nil, length-take}
 use Rattle.omos_outside.specs.Stream.{Stream}
@@ -7,7 +9,8 @@ use Rattle.omosd_calls.specs.declared.cause.Cause.{Cause}
 use Rattle.omosd_calls.specs.declared.cause.Cause.TheVariants.{Object, Link}
 use Rattle.omosd_calls.proofs.Images.{lone_image-some}
 use Rattle.omosd_calls.specs.declared.ending.Ending.{Ending}
-use Rattle.omosd_calls.specs.declared.ending.Ending.TheVariants.{Done, Refused, Usage, SourceFailed, SinkFailed, NoMemory}
+use Rattle.omosd_calls.specs.declared.ending.Ending.TheVariants.{Done, Refused, Usage, SourceFailed}
+use Rattle.omosd_calls.specs.declared.ending.Ending.TheVariants.{SinkFailed, NoMemory}
 use Rattle.omosd_calls.specs.Input.{IsInput, ToldInput}
 use Rattle.omosd_calls.specs.Output.{ToldOutput}
 use Rattle.omosd_calls.specs.Once.{Answered, IsOutput}
@@ -40,7 +43,8 @@ some_output file a (inl x) none = lone_image-some file a x none
 some_output file a (inr x) none = some_line x.0 (sym x.2 ∙ none)
 
 -- what was written at a sink that tells what it holds
-told_bytes : (before now : Option (List ℕ)) (a b : List ℕ) → ToldOutput before now a → Appends before now b → a ≡ b
+told_bytes : (before now : Option (List ℕ)) (a b : List ℕ) → ToldOutput before now a
+    → Appends before now b → a ≡ b
 told_bytes None now a b told wrote = absurd told
 told_bytes (Some old) None a b told wrote = absurd told
 told_bytes (Some old) (Some new) a b told wrote = append_cancel_left old a b (sym told ∙ wrote)
@@ -50,7 +54,8 @@ nothing_appended None = tt
 nothing_appended (Some old) = sym (append-nil old)
 
 -- a sink that was left alone has no output
-pub no_output : (file : List ℕ) (before : Option (List ℕ)) (a : List ℕ) → IsOutput file a → ToldOutput before before a → ⊥
+pub no_output : (file : List ℕ) (before : Option (List ℕ)) (a : List ℕ) → IsOutput file a
+    → ToldOutput before before a → ⊥
 no_output file before a out told =
     some_output file a out (told_bytes before before a [] told (nothing_appended before))
 
@@ -61,19 +66,24 @@ not_shorter count a b short part same =
     omega arith
 
 -- all of an output was written, so the run ended with the output's status
-pub ended_done : (e : Ending) (file : List ℕ) (before now : Option (List ℕ)) (a : List ℕ) → Answered e file before now → IsImage file a → ToldOutput before now a → e ≡ Done
+pub ended_done : (e : Ending) (file : List ℕ) (before now : Option (List ℕ)) (a : List ℕ)
+    → Answered e file before now → IsImage file a → ToldOutput before now a → e ≡ Done
 ended_done Done file before now a answer image told = refl
-ended_done Refused file before now a answer image told = absurd (image_not_refusal file a answer.0 image answer.1)
+ended_done Refused file before now a answer image told =
+    absurd (image_not_refusal file a answer.0 image answer.1)
 ended_done Usage file before now a answer image told = absurd answer
 ended_done SourceFailed file before now a answer image told = absurd answer
 ended_done SinkFailed file before now a answer image told =
     absurd (not_shorter answer.2.0 a answer.0 answer.2.1 (told_bytes before now a _ told answer.2.2)
     (same_output file a answer.0 (inl image) answer.1))
 ended_done NoMemory file before now a answer image told =
-    absurd (no_output file before a (inl image) (subst (λ (t : Option (List ℕ)). ToldOutput before t a) answer told))
+    absurd (no_output file before a (inl image)
+    (subst (λ (t : Option (List ℕ)). ToldOutput before t a) answer told))
 
-pub ended_refused : (e : Ending) (file : List ℕ) (before now : Option (List ℕ)) (a : List ℕ) → Answered e file before now → IsRefusal file a → ToldOutput before now a → e ≡ Refused
-ended_refused Done file before now a answer refusal told = absurd (image_not_refusal file answer.0 a answer.1 refusal)
+pub ended_refused : (e : Ending) (file : List ℕ) (before now : Option (List ℕ)) (a : List ℕ)
+    → Answered e file before now → IsRefusal file a → ToldOutput before now a → e ≡ Refused
+ended_refused Done file before now a answer refusal told =
+    absurd (image_not_refusal file answer.0 a answer.1 refusal)
 ended_refused Refused file before now a answer refusal told = refl
 ended_refused Usage file before now a answer refusal told = absurd answer
 ended_refused SourceFailed file before now a answer refusal told = absurd answer
@@ -81,10 +91,13 @@ ended_refused SinkFailed file before now a answer refusal told =
     absurd (not_shorter answer.2.0 a answer.0 answer.2.1 (told_bytes before now a _ told answer.2.2)
     (same_output file a answer.0 (inr refusal) answer.1))
 ended_refused NoMemory file before now a answer refusal told =
-    absurd (no_output file before a (inr refusal) (subst (λ (t : Option (List ℕ)). ToldOutput before t a) answer told))
+    absurd (no_output file before a (inr refusal)
+    (subst (λ (t : Option (List ℕ)). ToldOutput before t a) answer told))
 
 -- a source that tells its bytes gave one file
-pub told_file : (before now : Option Stream) (a b : List ℕ) → ToldInput before now a → IsInput before now b → a ≡ b
+pub told_file : (before now : Option Stream) (a b : List ℕ) → ToldInput before now a
+    → IsInput before now b → a ≡ b
 told_file None now a b told read = absurd told
 told_file (Some old) None a b told read = absurd told.given
-told_file (Some old) (Some new) a b told read = append_cancel_right a b new.left (sym told.given.0 ∙ read.given.0)
+told_file (Some old) (Some new) a b told read =
+    append_cancel_right a b new.left (sym told.given.0 ∙ read.given.0)

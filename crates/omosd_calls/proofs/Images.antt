@@ -20,7 +20,8 @@ use Rattle.omosd_calls.specs.Lone.{lone_base, lone_path, unless_link, unless_obj
 use Rattle.omosd_calls.specs.Lone.{IsImage}
 
 -- an image has bytes: those of its header
-bytes-some : (plan : Plan) (base : ℕ) (image : List ℕ) → image_bytes plan base ≡ Ok image → image ≢ []
+bytes-some : (plan : Plan) (base : ℕ) (image : List ℕ) → image_bytes plan base ≡ Ok image
+    → image ≢ []
 unfolding image_bytes ehdr_bytes
 bytes-some plan base image e none = go (overflow plan base) e
   where

@@ -14,7 +14,8 @@ pub no_fault : (bytes : List ℕ) (x : PathFault) → IsPath bytes → HasPathFa
 no_fault bytes Long path h = let short : length bytes ≤ 255 = path.3 in omega arith
 no_fault bytes (Shape place) path h =
     elim h.1 [
-      | inl stops ↦ stops.1 (drop (place + 1) bytes, subst IsPath (sym (take-append-drop (place + 1) bytes)) path)
+      | inl stops ↦ stops.1
+          (drop (place + 1) bytes, subst IsPath (sym (take-append-drop (place + 1) bytes)) path)
       | inr ends ↦ ends.2 path
     ]
 

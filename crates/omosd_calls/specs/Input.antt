@@ -1,5 +1,6 @@
 -- The file that a run reads.
-use Rattle.std.specs.Prelude.{◌≡◌, ◌⊎◌, ℕ, ◌+◌, ◌<◌, ◌≤◌, List, ◌++◌, length, drop, ⊤, Option, None, Some}
+use Rattle.std.specs.Prelude.{◌≡◌, ◌⊎◌, ℕ, ◌+◌, ◌<◌, ◌≤◌, List, ◌++◌, length, drop, ⊤, Option, None}
+use Rattle.std.specs.Prelude.{Some}
 use Rattle.omos_outside.specs.Stream.{Stream, Gives, IsAtEnd}
 use Rattle.omos_outside.specs.declared.source.Got.{Got}
 use Rattle.omos_outside.specs.declared.source.Got.TheVariants.{Bytes, End, Failed}

@@ -42,4 +42,5 @@ IsImage file output = lone_answer file ≡ Ok output
 
 -- this is the line that says why the file has none
 abbrev pub IsRefusal : List ℕ → List ℕ → Type 0
-IsRefusal file output = (cause : Cause) × (lone_answer file ≡ Err cause) × (output ≡ cause_line cause)
+IsRefusal file output = (cause : Cause) × (lone_answer file ≡ Err cause)
+    × (output ≡ cause_line cause)

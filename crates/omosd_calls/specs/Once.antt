@@ -2,7 +2,8 @@
 use Rattle.std.specs.Prelude.{◌≡◌, ◌⊎◌, ℕ, List, Option}
 use Rattle.std.specs.Io.KnownBytes.{Appends}
 use Rattle.omosd_calls.specs.declared.ending.Ending.{Ending}
-use Rattle.omosd_calls.specs.declared.ending.Ending.TheVariants.{Done, Refused, Usage, SourceFailed, SinkFailed, NoMemory}
+use Rattle.omosd_calls.specs.declared.ending.Ending.TheVariants.{Done, Refused, Usage, SourceFailed}
+use Rattle.omosd_calls.specs.declared.ending.Ending.TheVariants.{SinkFailed, NoMemory}
 use Rattle.omosd_calls.specs.declared.cause.Cause.{Cause}
 use Rattle.omosd_calls.specs.Lone.{IsImage, IsRefusal, cause_line}
 use Rattle.omos_outside.specs.Sent.{WrotePart}

@@ -1,7 +1,7 @@
 //! How a run ends.
 
 ghost use Rattle.std.specs.Prelude.{◌≡◌};
-ghost use Rattle.omosd_calls.specs.Ending.{status_of};
+ghost use Rattle.omosd_calls.specs.inside.Ending.{status_of};
 
 /// How a run ends.
 #[derive(Clone, Copy, Debug, PartialEq, Eq)]

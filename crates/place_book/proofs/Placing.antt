@@ -65,7 +65,8 @@ spans_all : (P : Span → Type 0) (ps : List Placement) (ss : List Span) → Are
     → All (λ p. P (span_of p)) ps → All P ss
 spans_all P ps ss k a = All-permutation P (map span_of ps) ss k.same (All-map P span_of ps a)
 
-placed_all : (P : Span → Type 0) (ps : List Placement) (ss : List Span) → AreSpansOf ps ss → All P ss
+placed_all : (P : Span → Type 0) (ps : List Placement) (ss : List Span) → AreSpansOf ps ss
+    → All P ss
     → All (λ p. P (span_of p)) ps
 placed_all P ps ss k a =
     All-unmap P span_of ps
@@ -115,7 +116,8 @@ least ps ss pages lo hi other k f =
     fold_least (4096 * pages) lo other ss f.low
     (spans_all (IsClear (4096 * pages) other) ps ss k f.apart)
 
-free_at : (ps : List Placement) (ss : List Span) (pages lo hi : ℕ) → AreSpansOf ps ss → IsRange lo hi
+free_at : (ps : List Placement) (ss : List Span) (pages lo hi : ℕ) → AreSpansOf ps ss
+    → IsRange lo hi
     → past (fold (next_base (4096 * pages)) lo ss) pages ≤ hi
     → IsFreePlace ps pages lo hi (fold (next_base (4096 * pages)) lo ss)
 free_at ps ss pages lo hi k r high =
@@ -139,7 +141,8 @@ new_place ps ss path pages lo hi base k r u e high =
       free_at ps ss pages lo hi k (range_is lo hi r) (subst (λ b. past b pages ≤ hi) e high),
       λ other f. least ps ss pages lo hi other k f,
     ) in
-    ap New e ∙ sym (from_words ps path pages lo hi (New (fold (next_base (4096 * pages)) lo ss)) words)
+    ap New e ∙ sym
+    (from_words ps path pages lo hi (New (fold (next_base (4096 * pages)) lo ss)) words)
 
 pub no_place : (ps : List Placement) (ss : List Span) (path : Name) (pages lo hi base : ℕ)
     → AreSpansOf ps ss

@@ -150,7 +150,8 @@ number_of book pages lo hi base f =
     (base / 4096, omega arith, omega arith, omega arith)
 
 least : (book : List Placement) (pages lo hi base : ℕ) → least_free book pages lo hi ≡ Some base
-    → IsFreePlace book pages lo hi base × ((other : ℕ) → IsFreePlace book pages lo hi other → base ≤ other)
+    → IsFreePlace book pages lo hi base
+    × ((other : ℕ) → IsFreePlace book pages lo hi other → base ≤ other)
 least book pages lo hi base e =
     go (first (is_free book pages lo hi) (lo / 4096) (hi / 4096 + 1) base e)
   where

@@ -5,7 +5,7 @@ ghost use Rattle.history_book.specs.Told.{is_placed};
 ghost use Rattle.hub_store.specs.Parts.{IsTicket};
 ghost use Rattle.link_model.specs.Plan.{Plan};
 ghost use Rattle.hub_store.specs.Links.{IsPlanFor, PlaceGives, MayFinish};
-ghost use Rattle.store_cases.specs.Ends.{IsOutcomeOf};
+ghost use Rattle.store_cases.specs.inside.Ends.{IsOutcomeOf};
 
 use hub_store::{Outcome, PlaceReply, Store, Ticket};
 use link_model::{Planned, laws};

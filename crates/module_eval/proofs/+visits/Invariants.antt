@@ -49,12 +49,15 @@ invariant-exprs::visit_expr-pending g l =
     record {
       walked : (limit : ℕ) → l.walk.memo.deepest ≤ limit
           → (t : Term) × Means l.place.counting l.part t
-          × EndsIn l.place.counting (space_of l.place) limit l.fn.walk.above l.place.at.now l.pending t (visit_of l.walk.counts)
-          (tree_in (space_of l.place) limit l.fn.walk.above l.place.at.now (tree_of l.expr) (visit_of l.fn.walk.counts));
+          × EndsIn l.place.counting (space_of l.place) limit l.fn.walk.above l.place.at.now
+          l.pending t (visit_of l.walk.counts)
+          (tree_in (space_of l.place) limit l.fn.walk.above l.place.at.now (tree_of l.expr)
+          (visit_of l.fn.walk.counts));
       ready : IsReady (space_of l.place) l.walk;
       counts : CountOn l.fn.walk.counts l.walk.counts;
       back : ComesBack (space_of l.place) true l.fn.walk l.walk;
-      cost : Charges (space_of l.place) l.place.counting (operators (tree_of l.expr)) (owed l.pending)
+      cost : Charges (space_of l.place) l.place.counting (operators (tree_of l.expr))
+          (owed l.pending)
           l.fn.walk.counts l.walk.counts l.fn.steps l.steps;
     }
 
@@ -65,17 +68,22 @@ abbrev pub invariant-exprs::descend-nodes : goal.invariant-exprs::descend-nodes
 invariant-exprs::descend-nodes g l =
     record {
       walked : (limit : ℕ) (end : Trail Term)
-          → Comes (tree_in (space_of l.place) limit l.fn.walk.above l.place.at.now (tree_of l.fn.expr) (visit_of l.fn.walk.counts))
-          (EndsIn l.place.counting (space_of l.place) limit l.fn.walk.above l.place.at.now l.fn.pending) end
-          → Comes (tree_in (space_of l.place) limit l.fn.walk.above l.place.at.now (tree_of l.expr) (visit_of l.walk.counts))
-          (EndsIn l.place.counting (space_of l.place) limit l.fn.walk.above l.place.at.now l.pending) end;
+          → Comes (tree_in (space_of l.place) limit l.fn.walk.above l.place.at.now
+          (tree_of l.fn.expr) (visit_of l.fn.walk.counts))
+          (EndsIn l.place.counting (space_of l.place) limit l.fn.walk.above l.place.at.now
+          l.fn.pending) end
+          → Comes (tree_in (space_of l.place) limit l.fn.walk.above l.place.at.now (tree_of l.expr)
+          (visit_of l.walk.counts))
+          (EndsIn l.place.counting (space_of l.place) limit l.fn.walk.above l.place.at.now
+          l.pending) end;
       formed : IsTrue (is_formed l.expr);
       ready : IsReady (space_of l.place) l.walk;
       above : l.walk.above ≡ l.fn.walk.above;
       memo : l.walk.memo ≡ l.fn.walk.memo;
       read : l.walk.counts.read.entries ≡ l.fn.walk.counts.read.entries;
       steps : l.steps ≡ l.fn.steps;
-      cost : operators (tree_of l.expr) + owed l.pending ≡ operators (tree_of l.fn.expr) + owed l.fn.pending;
+      cost : operators (tree_of l.expr) + owed l.pending
+          ≡ operators (tree_of l.fn.expr) + owed l.fn.pending;
       least : l.fn.walk.counts.nodes ≤ l.walk.counts.nodes;
       begun : length l.pending + l.fn.walk.counts.nodes ≡ length l.fn.pending + l.walk.counts.nodes;
     }

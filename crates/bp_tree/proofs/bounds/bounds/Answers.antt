@@ -1,9 +1,10 @@
 use Rattle.std.proofs.Common.{[], ◌∷◌, ap, sym, ◌∙◌}
-use Rattle.bp_tree.specs.Pending.{pending, placed_first, seen}
-use Rattle.bp_tree.specs.Symbols.{Low, High, Fails}
+use Rattle.bp_tree.specs.inside.Pending.{pending, placed_first, seen}
+use Rattle.bp_tree.specs.inside.Symbols.{Low, High, Fails}
 use Rattle.bp_tree.proofs.Arms.{fault_onward}
 use Rattle.bp_tree.proofs.Sights.{seen_word, not_true}
-use Rattle.bp_tree.proofs.Ranges.{low_called, number_early, number_shape, number_none, low_off, low_fails, low_read}
+use Rattle.bp_tree.proofs.Ranges.{low_called, number_early, number_shape, number_none, low_off}
+use Rattle.bp_tree.proofs.Ranges.{low_fails, low_read}
 use Rattle.bp_tree.proofs.bounds.bounds.Goals as goal
 
 pub returns-in-None : goal.returns-in-None
@@ -11,27 +12,35 @@ returns-in-None c = number_early Low low_called (pending c.args.from) c.in-None.
 
 pub returns-in_default : goal.returns-in_default
 returns-in_default c =
-    number_shape Low low_called (pending c.args.from) (placed_first c.in-Some.next) (pending c.in-Some.next.after) c.in-Some.ensures
+    number_shape Low low_called (pending c.args.from) (placed_first c.in-Some.next)
+    (pending c.in-Some.next.after) c.in-Some.ensures
     (λ w h. seen_word c.in-Some.next.token w h (λ u e _. c.in_default.not-Word u e))
 
 pub returns-in-None-number : goal.returns-in-None-number
 returns-in-None-number c =
-    number_none Low low_called (pending c.args.from) (placed_first c.in-Some.next) (pending c.in-Some.next.after) c.in-Some.ensures
+    number_none Low low_called (pending c.args.from) (placed_first c.in-Some.next)
+    (pending c.in-Some.next.after) c.in-Some.ensures
     c.in-Word.word.now (ap seen c.in-Word.is) c.in-None-number.ensures
 
 pub returns-else-are_bounds : goal.returns-else-are_bounds
 returns-else-are_bounds c =
-    low_off (pending c.args.from) (placed_first c.in-Some.next) (pending c.in-Some.next.after) c.in-Some.ensures
+    low_off (pending c.args.from) (placed_first c.in-Some.next) (pending c.in-Some.next.after)
+    c.in-Some.ensures
     c.in-Word.word.now c.in-Some-number.lo (ap seen c.in-Word.is) c.in-Some-number.ensures
     (λ h. not_true (sym c.if-are_bounds.false ∙ c.are_bounds.ensures ∙ h))
 
 pub returns-in-Ok : goal.returns-in-Ok
 returns-in-Ok c =
-    low_read (pending c.args.from) (placed_first c.in-Some.next) (pending c.in-Some.next.after) (pending c.in-Ok.after) c.in-Word.word.now
-    c.in-Some-number.lo c.in-Ok.hi c.in-Some.ensures (ap seen c.in-Word.is) c.in-Some-number.ensures c.in-Ok.ensures
+    low_read (pending c.args.from) (placed_first c.in-Some.next) (pending c.in-Some.next.after)
+    (pending c.in-Ok.after) c.in-Word.word.now
+    c.in-Some-number.lo c.in-Ok.hi c.in-Some.ensures (ap seen c.in-Word.is) c.in-Some-number.ensures
+    c.in-Ok.ensures
 
 pub returns-in-Err : goal.returns-in-Err
 returns-in-Err c =
-    fault_onward _ c.in-Err.fault _ (Fails (High c.in-Some-number.lo ∷ []) (pending c.in-Some.next.after)) (Fails (Low ∷ []) (pending c.args.from)) c.in-Err.ensures
-    (λ stop f. low_fails (pending c.args.from) (placed_first c.in-Some.next) (pending c.in-Some.next.after) c.in-Word.word.now
+    fault_onward _ c.in-Err.fault _
+    (Fails (High c.in-Some-number.lo ∷ []) (pending c.in-Some.next.after))
+    (Fails (Low ∷ []) (pending c.args.from)) c.in-Err.ensures
+    (λ stop f. low_fails (pending c.args.from) (placed_first c.in-Some.next)
+    (pending c.in-Some.next.after) c.in-Word.word.now
     c.in-Some-number.lo stop c.in-Some.ensures (ap seen c.in-Word.is) c.in-Some-number.ensures f)

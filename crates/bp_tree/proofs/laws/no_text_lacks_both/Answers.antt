@@ -110,7 +110,8 @@ law text no_image no_fault =
     elim (by_length text) [
       | inr long ↦ no_fault (Long, long)
       | inl short ↦
-          let allowed = search_barred (tokens_of text) [] (tokens_of text) refl (All-nil StandsInTexts)
+          let allowed =
+          search_barred (tokens_of text) [] (tokens_of text) refl (All-nil StandsInTexts)
           (λ place b. no_fault (Byte place, (short, b))) in
           walk images (tokens_of text) [] (tokens_of text) (length text) refl any_image
           (λ is. no_image is)

@@ -29,7 +29,8 @@ not_shaped : (ts : List Placed) (place : ℕ) → IsBarredAt ts place → All St
 not_shaped ts place b all = not_allowed b.0 b.2 b.1 place (subst (All StandsInTexts) b.3 all)
 
 barred_behind : (xs ys more : List Placed) (byte place : ℕ)
-    → ys ≡ (xs ++ record { token = Barred byte; place = place } ∷ []) ++ more → All StandsInTexts ys → ⊥
+    → ys ≡ (xs ++ record { token = Barred byte; place = place } ∷ []) ++ more → All StandsInTexts ys
+    → ⊥
 barred_behind xs ys more byte place e all =
     not_allowed xs more byte place
     (subst (All StandsInTexts) (e ∙ append_assoc xs

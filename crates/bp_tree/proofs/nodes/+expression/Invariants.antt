@@ -1,6 +1,6 @@
 use Rattle.std.proofs.Common.{◌*◌, ◌+◌, length}
-use Rattle.bp_tree.specs.Pending.{pending}
-use Rattle.bp_tree.specs.Symbols.{Exprs, HasGrown}
+use Rattle.bp_tree.specs.inside.Pending.{pending}
+use Rattle.bp_tree.specs.inside.Symbols.{Exprs, HasGrown}
 use Rattle.bp_tree.proofs.Operands.{Grouped}
 use Rattle.bp_tree.proofs.nodes.+expression.Given as goal
 
@@ -30,7 +30,8 @@ decreases-push_one l = 8 * l.room + 2
 
 abbrev pub invariant-operands-operands : goal.invariant-operands-operands
 invariant-operands-operands l =
-    HasGrown (Exprs l.room) (Grouped l.room l.fn.given l.operands) (pending l.fn.from) (pending l.rest)
+    HasGrown (Exprs l.room) (Grouped l.room l.fn.given l.operands) (pending l.fn.from)
+    (pending l.rest)
 
 abbrev pub decreases-operands-operands : goal.decreases-operands-operands
 decreases-operands-operands l = length (pending l.rest)

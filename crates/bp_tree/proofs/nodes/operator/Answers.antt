@@ -1,8 +1,8 @@
 use Rattle.std.proofs.Common.{[], ◌∷◌, ◌++◌, ◌≡◌, ap, map, All, codes, arith}
 use Rattle.omos_base.specs.SymNames.{IsSymName}
 use Rattle.bp_tree.specs.Tokens.{Open, Close, Word}
-use Rattle.bp_tree.specs.Pending.{pending}
-use Rattle.bp_tree.specs.Symbols.{It, Names, AName, IsOperator}
+use Rattle.bp_tree.specs.inside.Pending.{pending}
+use Rattle.bp_tree.specs.inside.Symbols.{It, Names, AName, IsOperator}
 use Rattle.bp_tree.specs.declared.form.Applied.TheVariants as kind
 use Rattle.bp_tree.specs.declared.operator.Operator.TheVariants as operator
 use Rattle.bp_tree.proofs.Arms.{revalued}
@@ -11,7 +11,9 @@ use Rattle.bp_tree.proofs.nodes.operator.Goals as goal
 pub returns-in_ok-old-in-Rename : goal.returns-in_ok-old-in-Rename
 returns-in_ok-old-in-Rename c =
     let k = c.in_ok-old-in-Rename in
-    rw c.in-Rename.is (revalued (AName ∷ AName ∷ []) (λ ws. (ws ≡ Word k.old ∷ Word k.new ∷ []) × IsSymName k.old × IsSymName k.new)
+    rw c.in-Rename.is
+    (revalued (AName ∷ AName ∷ []) (λ ws. (ws ≡ Word k.old ∷ Word k.new ∷ []) × IsSymName k.old
+    × IsSymName k.new)
     (IsOperator kind.Rename (operator.Rename k.old k.new)) (pending c.args.from) (pending k.after)
     (λ ws v. (ap (λ us. Word (codes "rename") ∷ us) v.0, (v.1, v.2), omega arith)) k.ensures)
 
@@ -39,13 +41,17 @@ returns-in_ok-name-in-Hide c =
 pub returns-in_ok-names-in-Show : goal.returns-in_ok-names-in-Show
 returns-in_ok-names-in-Show c =
     let k = c.in_ok-names-in-Show in
-    rw c.in-Show.is (revalued (It Open ∷ Names ∷ []) (λ ws. (ws ≡ Open ∷ (map Word k.names ++ Close ∷ [])) × All IsSymName k.names)
+    rw c.in-Show.is
+    (revalued (It Open ∷ Names ∷ []) (λ ws. (ws ≡ Open ∷ (map Word k.names ++ Close ∷ []))
+    × All IsSymName k.names)
     (IsOperator kind.Show (operator.Show k.names)) (pending c.args.from) (pending k.after)
     (λ ws v. (ap (λ us. Word (codes "show") ∷ us) v.0, v.1, omega arith)) k.ensures)
 
 pub returns-in_ok-old-in-CopyAs : goal.returns-in_ok-old-in-CopyAs
 returns-in_ok-old-in-CopyAs c =
     let k = c.in_ok-old-in-CopyAs in
-    rw c.in-CopyAs.is (revalued (AName ∷ AName ∷ []) (λ ws. (ws ≡ Word k.old ∷ Word k.new ∷ []) × IsSymName k.old × IsSymName k.new)
+    rw c.in-CopyAs.is
+    (revalued (AName ∷ AName ∷ []) (λ ws. (ws ≡ Word k.old ∷ Word k.new ∷ []) × IsSymName k.old
+    × IsSymName k.new)
     (IsOperator kind.CopyAs (operator.CopyAs k.old k.new)) (pending c.args.from) (pending k.after)
     (λ ws v. (ap (λ us. Word (codes "copy_as") ∷ us) v.0, (v.1, v.2), omega arith)) k.ensures)

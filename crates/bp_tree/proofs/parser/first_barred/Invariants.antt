@@ -1,5 +1,5 @@
 use Rattle.std.proofs.Common.{length}
-use Rattle.bp_tree.specs.Pending.{pending}
+use Rattle.bp_tree.specs.inside.Pending.{pending}
 use Rattle.bp_tree.proofs.Images.{Passed}
 use Rattle.bp_tree.proofs.parser.first_barred.Given as goal
 

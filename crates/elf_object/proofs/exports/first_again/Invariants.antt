@@ -4,7 +4,7 @@ use Rattle.std.specs.BTreeSet.{contains}
 use Rattle.omos_model.specs.Numbers.{numbers_from}
 use Rattle.omos_model.specs.ElfFields.{symbols}
 use Rattle.omos_model.specs.ElfFaults.{is_again}
-use Rattle.elf_object.specs.Seen.{HaveSeen, name_order}
+use Rattle.elf_object.specs.inside.Seen.{HaveSeen, name_order}
 use Rattle.elf_object.proofs.exports.first_again.Given as goal
 
 -- the names that the symbols below k define were seen, and none of these is there again

@@ -1,6 +1,6 @@
 use Rattle.std.proofs.Common.{◌<◌, sym, ◌∙◌, arith}
 use Rattle.omos_model.specs.ElfFields.{e_shnum}
-use Rattle.elf_object.specs.Checks.{fails}
+use Rattle.elf_object.specs.inside.Checks.{fails}
 use Rattle.elf_object.proofs.Runs.{find_here, find_next}
 use Rattle.elf_object.proofs.kept.first_failing.Goals as goal
 

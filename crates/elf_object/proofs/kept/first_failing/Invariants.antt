@@ -2,7 +2,7 @@ use Rattle.std.proofs.Common.{◌≡◌, ◌-◌}
 use Rattle.std.specs.List.{find}
 use Rattle.omos_model.specs.Numbers.{numbers_from}
 use Rattle.omos_model.specs.ElfFields.{e_shnum, sections}
-use Rattle.elf_object.specs.Checks.{fails}
+use Rattle.elf_object.specs.inside.Checks.{fails}
 use Rattle.elf_object.proofs.kept.first_failing.Given as goal
 
 -- none was found below i

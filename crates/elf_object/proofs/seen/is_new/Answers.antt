@@ -7,7 +7,7 @@ use Rattle.std.specs.BTreeSet.{contains}
 use Rattle.omos_model.specs.ElfFields.{name_of}
 use Rattle.omos_model.specs.Names.{same_name}
 use Rattle.omos_model.proofs.Names.{same_name-swap}
-use Rattle.elf_object.specs.Seen.{HaveSeen, digest, symbol_in_place, name_order}
+use Rattle.elf_object.specs.inside.Seen.{HaveSeen, digest, symbol_in_place, name_order}
 use Rattle.elf_object.proofs.SeenNames.{again_other, free_new, seen_more, seen_put}
 use Rattle.elf_object.proofs.seen.is_new.Goals as goal
 

@@ -17,11 +17,14 @@ loop-i-preserved c =
       fixups = elim c.if-is_used.branch [
         | then-is_used+in_ok-push_fixups w ↦
             w.fixups-is ∙ w.in_ok-push_fixups.ensures
-            ∙ ap (λ (xs : List Fixup). xs ++ filter_map f (row f used (entry_count file) i)) c.loop-i.invariant.fixups
-            ∙ sym (rows_more f used (entry_count file) i c.loop-i.auto.i (sym c.is_used.ensures ∙ w.if-is_used.true))
+            ∙ ap (λ (xs : List Fixup). xs ++ filter_map f (row f used (entry_count file) i))
+            c.loop-i.invariant.fixups
+            ∙ sym (rows_more f used (entry_count file) i c.loop-i.auto.i
+            (sym c.is_used.ensures ∙ w.if-is_used.true))
         | else-is_used w ↦
             w.fixups-is ∙ c.loop-i.invariant.fixups
-            ∙ sym (rows_none f used (entry_count file) i c.loop-i.auto.i (sym c.is_used.ensures ∙ w.if-is_used.false))
+            ∙ sym (rows_none f used (entry_count file) i c.loop-i.auto.i
+            (sym c.is_used.ensures ∙ w.if-is_used.false))
       ];
       within = omega (arith, c.sections-i-end.ensures.count);
     }

@@ -10,7 +10,7 @@ use Rattle.omos_model.specs.ElfFaults.{entry_count, is_aim_of}
 use Rattle.omos_model.specs.FragmentOf.{fixup_of, section_piece}
 use Rattle.omos_model.specs.declared.fragment.Fixup.{Fixup}
 use Rattle.fragment_read.proofs.Counted.{made, made_more}
-use Rattle.fragment_read.specs.Numbered.{fixup_with}
+use Rattle.fragment_read.specs.inside.Numbered.{fixup_with}
 use Rattle.fragment_read.proofs.Made.{fixup_is, no_fixup, read_is, type_is}
 use Rattle.fragment_read.proofs.Right.{kept_right, right_entry}
 use Rattle.fragment_read.proofs.fixups.push_fixups.Goals as goal

@@ -1,6 +1,6 @@
 use Rattle.std.proofs.Common.{◌≡◌, ℕ, ◌<◌, ◌≤◌, Some, length}
 use Rattle.std.specs.List.{slice_get}
-use Rattle.fragment_read.specs.Numbered.{name_if}
+use Rattle.fragment_read.specs.inside.Numbered.{name_if}
 use Rattle.fragment_read.proofs.names.names.Given as goal
 
 abbrev pub invariant-loop-k : goal.invariant-loop-k

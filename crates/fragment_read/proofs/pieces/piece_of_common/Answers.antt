@@ -18,4 +18,8 @@ overflow_cast-result c =
     let e : c.symbol-symbol.result.st_size ≡ st_size c.args.tables.now c.args.k =
     ap (λ (s : Sym). s.st_size) c.symbol-symbol.ensures.read in
     let r = c.requires in
-    omega (arith, e, (common_right c.args.tables.now c.args.k r.right r.counted r.there r.common).small)
+    omega (
+      arith,
+      e,
+      (common_right c.args.tables.now c.args.k r.right r.counted r.there r.common).small,
+    )

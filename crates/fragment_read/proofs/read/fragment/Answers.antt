@@ -4,7 +4,8 @@ use Rattle.fragment_read.proofs.Whole.{fragment_is, refused_alike}
 use Rattle.fragment_read.proofs.read.fragment.Goals as goal
 
 pub returns-in_ok-parts_of_file-in-Ok : goal.returns-in_ok-parts_of_file-in-Ok
-returns-in_ok-parts_of_file-in-Ok c = let a = c.in-Ok.ensures.tables in let b = c.in_ok-parts_of_file-in-Ok.ensures in
+returns-in_ok-parts_of_file-in-Ok c = let a = c.in-Ok.ensures.tables in let b =
+    c.in_ok-parts_of_file-in-Ok.ensures in
     fragment_is c.args.file.now a.1 ∙ ap (λ f. Ok (parts_of_file f)) (sym a.0) ∙ ap Ok (sym b)
 
 pub returns-in-Err : goal.returns-in-Err

@@ -8,4 +8,5 @@ use Rattle.image_write.proofs.fields.patch_fields.Given as goal
 abbrev pub invariant-loop-leaf : goal.invariant-loop-leaf
 invariant-loop-leaf l =
     IsPatched l.ground.places.now l.ground.table.now l.ground.base
-    (flat_map references_in (take l.leaf (enumerate_from 0 (map part_with (zip l.leaves l.landings))))) l.body l.fn.body
+    (flat_map references_in
+    (take l.leaf (enumerate_from 0 (map part_with (zip l.leaves l.landings))))) l.body l.fn.body

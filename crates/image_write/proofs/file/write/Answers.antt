@@ -10,7 +10,9 @@ use Rattle.image_write.proofs.file.write.Goals as goal
 pub fill-requires-clause-size : goal.fill-requires-clause-size
 fill-requires-clause-size c =
     let sound = c.groups_in-groups.ensures.sound in
-    rest-size c.into_vec-bytes.result.items c.in_ok-page.page c.len-head.result c.groups_in-groups.result.now.begins.zeros (c.into_vec-bytes.ensures ∙ c.in_ok-push_zeros.ensures.added) c.len-head.ensures
+    rest-size c.into_vec-bytes.result.items c.in_ok-page.page c.len-head.result
+    c.groups_in-groups.result.now.begins.zeros (c.into_vec-bytes.ensures
+    ∙ c.in_ok-push_zeros.ensures.added) c.len-head.ensures
     ∙ ap (λ n. c.len-head.result + n) (sound.groups.begins Zeros)
 
 pub returns-in-Ok : goal.returns-in-Ok
@@ -20,9 +22,17 @@ returns-in-Ok c =
     let l = c.args.layout.now in
     let base = c.args.base in
     let first = base + c.groups_in-groups.result.now.slots in
-    let table = subst (λ (s : List Target). IsTable c.in_ok-table.table s first) c.slots.ensures c.in_ok-table.ensures in
-    let entry = c.entry_in-entry.ensures ∙ ap (λ (ps : List (List ℕ)). entry_in ps base l.entry) c.places.ensures in
-    let image = written-ok c.groups_in-groups.result.now m l c.in_ok-table.table base c.entry_in-entry.result c.len-head.result c.into_vec-bytes.result.items c.fill.new.bytes.items c.in_ok-page.page sound table entry c.in_ok-page.ensures (c.into_vec-bytes.ensures ∙ c.in_ok-push_zeros.ensures.added) c.len-head.ensures c.in-Ok.ensures.0 c.in-Ok.ensures.1 in
+    let table =
+    subst (λ (s : List Target). IsTable c.in_ok-table.table s first) c.slots.ensures
+    c.in_ok-table.ensures in
+    let entry = c.entry_in-entry.ensures
+    ∙ ap (λ (ps : List (List ℕ)). entry_in ps base l.entry) c.places.ensures in
+    let image =
+    written-ok c.groups_in-groups.result.now m l c.in_ok-table.table base
+    c.entry_in-entry.result c.len-head.result c.into_vec-bytes.result.items
+    c.fill.new.bytes.items c.in_ok-page.page sound table entry c.in_ok-page.ensures
+    (c.into_vec-bytes.ensures ∙ c.in_ok-push_zeros.ensures.added) c.len-head.ensures
+    c.in-Ok.ensures.0 c.in-Ok.ensures.1 in
     record { written = (plan_with m l, sound.plan, image ∙ ap Ok (sym c.from_vec.ensures)) }
 
 pub returns : goal.returns
@@ -32,5 +42,14 @@ returns c =
     let l = c.args.layout.now in
     let base = c.args.base in
     let first = base + c.groups_in-groups.result.now.slots in
-    let table = subst (λ (s : List Target). IsTable c.in_ok-table.table s first) c.slots.ensures c.in_ok-table.ensures in
-    record { written = (plan_with m l, sound.plan, written-err c.groups_in-groups.result.now m l c.in_ok-table.table base c.in-Err.refusal sound table c.in-Err.ensures) }
+    let table =
+    subst (λ (s : List Target). IsTable c.in_ok-table.table s first) c.slots.ensures
+    c.in_ok-table.ensures in
+    record {
+      written = (
+        plan_with m l,
+        sound.plan,
+        written-err c.groups_in-groups.result.now m l c.in_ok-table.table base c.in-Err.refusal
+            sound table c.in-Err.ensures,
+      );
+    }

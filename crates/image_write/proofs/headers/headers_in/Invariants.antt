@@ -1,5 +1,5 @@
 use Rattle.std.proofs.Common.{◌≡◌, ◌≤◌, length, take}
-use Rattle.image_write.specs.Headers.{all_groups, loads_in}
+use Rattle.image_write.specs.inside.Headers.{all_groups, loads_in}
 use Rattle.image_write.proofs.headers.headers_in.Given as goal
 
 abbrev pub invariant-loop-group : goal.invariant-loop-group

@@ -7,7 +7,8 @@ abbrev pub invariant-loop-at : goal.invariant-loop-at
 invariant-loop-at l =
     record {
       within : l.at ≤ length l.leaves;
-      painted : Painted l.body (first_byte (placed_in (drop l.at l.places) (drop l.at l.leaves))) l.fn.body;
+      painted : Painted l.body (first_byte (placed_in (drop l.at l.places) (drop l.at l.leaves)))
+          l.fn.body;
     }
 
 abbrev pub decreases-loop-at : goal.decreases-loop-at

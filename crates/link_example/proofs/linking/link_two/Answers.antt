@@ -15,4 +15,5 @@ returns-in-Err-Refused-linked c =
     c.in-Ok-blueprint.entry _ _ _ c.in_ok-snap.snap.entries
     (Err c.in-Err-Refused-linked.fault) c.in-Ok.ensures c.in-Ok-object.ensures
     c.in-Ok-blueprint.ensures c.copy.ensures c.copy-in-Ok-object.ensures
-    c.copy-in-Ok-blueprint.ensures c.in_ok-snap.ensures (rw c.in-Err-Refused-linked.field-0-is at c.in-Err-Refused-linked.ensures)
+    c.copy-in-Ok-blueprint.ensures c.in_ok-snap.ensures
+    (rw c.in-Err-Refused-linked.field-0-is at c.in-Err-Refused-linked.ensures)

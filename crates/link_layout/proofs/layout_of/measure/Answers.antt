@@ -17,10 +17,12 @@ returns-clause-slots c = slots_are c.args.program.now c.requires _ c.in_ok-slots
 pub returns-clause-groups : goal.returns-clause-groups
 returns-clause-groups c =
     groups_are c.args.program.now c.requires _ (c.as_slice.ensures ∙ c.in_ok-slots.ensures)
-    c.ends_of.result c.groups_of-groups.result c.ends_of.ensures.ends c.groups_of-groups.ensures.groups
+    c.ends_of.result c.groups_of-groups.result c.ends_of.ensures.ends
+    c.groups_of-groups.ensures.groups
 
 pub returns-clause-sizes : goal.returns-clause-sizes
 returns-clause-sizes c =
     sizes-of_groups c.groups_of-groups.result (parts_in c.args.program.now)
     (groups_are c.args.program.now c.requires _ (c.as_slice.ensures ∙ c.in_ok-slots.ensures)
-    c.ends_of.result c.groups_of-groups.result c.ends_of.ensures.ends c.groups_of-groups.ensures.groups)
+    c.ends_of.result c.groups_of-groups.result c.ends_of.ensures.ends
+    c.groups_of-groups.ensures.groups)

@@ -1,6 +1,6 @@
 use Rattle.std.proofs.Common.{◌≡◌, length, drop}
 use Rattle.std.specs.List.{enumerate_from, zip}
-use Rattle.link_layout.specs.References.{refusal_in}
+use Rattle.link_layout.specs.inside.References.{refusal_in}
 use Rattle.link_layout.proofs.references.check_leaf.Given as goal
 
 abbrev pub invariant-loop-number : goal.invariant-loop-number

@@ -7,17 +7,22 @@ use Rattle.link_layout.proofs.slots.fill_slots.Goals as goal
 
 pub loop-leaf-preserved : goal.loop-leaf-preserved
 loop-leaf-preserved c =
-    let rest = pairs-turn c.args.leaves.now c.args.landings.now c.into_iter-leaf-iterator.result (cc) (cc)
-    c.loop-leaf.yielded c.loop-leaf.leaf-iterator c.loop-leaf.yielded_by c.next.result c.next.new.self
+    let rest =
+    pairs-turn c.args.leaves.now c.args.landings.now c.into_iter-leaf-iterator.result (cc) (cc)
+    c.loop-leaf.yielded c.loop-leaf.leaf-iterator c.loop-leaf.yielded_by c.next.result
+    c.next.new.self
     (c.in-Some.leaf, c.in-Some.row) c.in-Some.is c.next.ensures.steps in
     let same = c.in_ok-add_slots.ensures
-    ∙ (λ i. fold slots_with c.loop-leaf.slots.keys (zip (c.fixups_in.ensures.fixups i) (c.as_slice.ensures i))) in
+    ∙ (λ i. fold slots_with c.loop-leaf.slots.keys
+    (zip (c.fixups_in.ensures.fixups i) (c.as_slice.ensures i))) in
     fold-next slots_with_leaf _ _ _ _ c.loop-leaf.slots.keys _ _ rest
     (length_push c.loop-leaf.yielded (c.in-Some.leaf, c.in-Some.row)) same c.loop-leaf.invariant
 
 pub returns : goal.returns
 returns c =
-    let rest = pairs-end c.args.leaves.now c.args.landings.now c.into_iter-leaf-iterator.result (cc) (cc)
-    c.loop-leaf.yielded c.loop-leaf.leaf-iterator c.loop-leaf.yielded_by c.next.result c.next.new.self
+    let rest =
+    pairs-end c.args.leaves.now c.args.landings.now c.into_iter-leaf-iterator.result (cc) (cc)
+    c.loop-leaf.yielded c.loop-leaf.leaf-iterator c.loop-leaf.yielded_by c.next.result
+    c.next.new.self
     c.in-None.is c.next.ensures.steps in
     fold-done slots_with_leaf _ _ _ rest c.loop-leaf.invariant

@@ -6,11 +6,14 @@ use Rattle.link_model.proofs.evaluated.range_is_lawful.Goals as goal
 pub returns-in-Object : goal.returns-in-Object
 returns-in-Object c =
     let first = rw c.footprint.ensures.footprint at c.index-footprint-0.is in
-    object_range c.args.evaluated.now c.index-footprint-0.result c.in-Object.field-0 c.path-path.ensures.evaluated first
+    object_range c.args.evaluated.now c.index-footprint-0.result c.in-Object.field-0
+    c.path-path.ensures.evaluated first
     (ap (λ (s : Stamped). s.entry) c.index-footprint-0.is ∙ sym c.get.ensures ∙ c.in-Object.is)
 
 pub returns-in-Blueprint : goal.returns-in-Blueprint
 returns-in-Blueprint c =
     let first = rw c.footprint.ensures.footprint at c.index-footprint-0.is in
-    image_range c.args.evaluated.now c.index-footprint-0.result c.in-Blueprint.image c.path-path.ensures.evaluated first
-    (ap (λ (s : Stamped). s.entry) c.index-footprint-0.is ∙ sym c.get.ensures ∙ c.in-Blueprint.is) c.lo-lo.ensures.lawful
+    image_range c.args.evaluated.now c.index-footprint-0.result c.in-Blueprint.image
+    c.path-path.ensures.evaluated first
+    (ap (λ (s : Stamped). s.entry) c.index-footprint-0.is ∙ sym c.get.ensures ∙ c.in-Blueprint.is)
+    c.lo-lo.ensures.lawful

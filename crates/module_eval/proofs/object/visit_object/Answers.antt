@@ -13,7 +13,10 @@ returns-clause-walk c f is =
     let number = c.in_ok-number.number in
     let same : Object c.in-Object.fragment ≡ Object f = sym c.in-Object.is ∙ c.get.ensures ∙ is in
     let fragment : c.in-Object.fragment ≡ f = cc in
-    let counted = subst (λ (g : FragmentParts). leaf_on g s (visit_of c.enter.new.counts) ≡ Ok (Leaf s number g, visit_of c.count_leaf.new.counts)) fragment c.in_ok-number.ensures.walk in (
+    let counted =
+    subst (λ (g : FragmentParts). leaf_on g s (visit_of c.enter.new.counts)
+    ≡ Ok (Leaf s number g, visit_of c.count_leaf.new.counts)) fragment
+    c.in_ok-number.ensures.walk in (
       Leaf s number f,
       rw (c.in_ok-node.ensures.walk, counted) refl,
       rw c.of.ensures ((s, f, c.in_ok-twin.ensures ∙ is, refl), refl),
@@ -25,5 +28,8 @@ returns-then-counting-clause-walk c f is =
     let number = c.in_ok-number.number in
     let same : Object c.in-Object.fragment ≡ Object f = sym c.in-Object.is ∙ c.get.ensures ∙ is in
     let fragment : c.in-Object.fragment ≡ f = cc in
-    let counted = subst (λ (g : FragmentParts). leaf_on g s (visit_of c.enter.new.counts) ≡ Ok (Leaf s number g, visit_of c.count_leaf.new.counts)) fragment c.in_ok-number.ensures.walk in
+    let counted =
+    subst (λ (g : FragmentParts). leaf_on g s (visit_of c.enter.new.counts)
+    ≡ Ok (Leaf s number g, visit_of c.count_leaf.new.counts)) fragment
+    c.in_ok-number.ensures.walk in
     (Leaf s number f, rw (c.in_ok-node.ensures.walk, counted) refl, search)

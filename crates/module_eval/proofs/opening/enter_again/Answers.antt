@@ -6,5 +6,6 @@ pub returns-clause-known : goal.returns-clause-known
 returns-clause-known c =
     on_ok_both c.enter.result _ _ _
     (λ alone stay ns above apart all built known.
-    known_again ns above above c.args.counts.now.read.entries c.enter.new.counts.read.entries apart all c.args.path.now alone stay built known)
+    known_again ns above above c.args.counts.now.read.entries c.enter.new.counts.read.entries apart
+    all c.args.path.now alone stay built known)
     c.enter.ensures.alone c.enter.ensures.stay

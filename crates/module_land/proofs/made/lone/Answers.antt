@@ -13,7 +13,12 @@ land-requires c =
     (lawful.0, sym c.get.ensures ∙ lawful.1, lawful.2) c.in_ok-twin.ensures c.in_ok-table.ensures
     (
     c.in_ok-push.ensures.added
-    ∙ ap (λ (xs : List Stamped). xs ++ record { path = c.in_ok-of.field-0; stamp = 1; entry = c.args.entry } ∷ []) c.new-footprint.ensures
-    ∙ ap (λ (p : Name). record { path = p; stamp = 1; entry = c.args.entry } ∷ []) (c.in_ok-of.ensures ∙ c.copy.ensures)
+    ∙ ap (λ (xs : List Stamped). xs ++ record {
+      path = c.in_ok-of.field-0;
+      stamp = 1;
+      entry = c.args.entry;
+    } ∷ []) c.new-footprint.ensures
+    ∙ ap (λ (p : Name). record { path = p; stamp = 1; entry = c.args.entry } ∷ [])
+    (c.in_ok-of.ensures ∙ c.copy.ensures)
     )
     (ap Named c.in_ok-usual_start.ensures)

@@ -7,5 +7,7 @@ loop-at-preserved c =
     record {
       within = omega arith;
       each = λ t.
-          table-goes c.args.slots.now _ c.loop-at.at _ _ t _ _ _ _ _ (omega arith) (search rules) c.of.ensures refl (omega arith) (c.in_ok-insert.ensures.updates.0 t) (c.loop-at.invariant.each t);
+          table-goes c.args.slots.now _ c.loop-at.at _ _ t _ _ _ _ _ (omega arith) (search rules)
+          c.of.ensures refl (omega arith) (c.in_ok-insert.ensures.updates.0 t)
+          (c.loop-at.invariant.each t);
     }

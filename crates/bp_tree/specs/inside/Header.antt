@@ -7,7 +7,7 @@ use Rattle.bp_tree.specs.Numerals.{IsNumeralOf}
 use Rattle.bp_tree.specs.Texts.{words_of}
 use Rattle.omos_model.specs.declared.entry.Start.{Start}
 use Rattle.bp_tree.specs.Grammar.{IsStart, IsRange}
-use Rattle.bp_tree.specs.Symbols.{Sym, It, AnExpr, AStart, ARange, AreSyms, WhyStops}
+use Rattle.bp_tree.specs.inside.Symbols.{Sym, It, AnExpr, AStart, ARange, AreSyms, WhyStops}
 use Rattle.bp_tree.specs.declared.stop.Stop.{Stop}
 
 -- the first two of these tokens are a parenthesis and this word
@@ -23,11 +23,13 @@ abbrev pub range_syms : List Sym
 range_syms = ARange ∷ body_syms
 
 -- a part that may be left out was read, and its tokens are as V says
-pub record IsHeaderPart (now : Sym) (next : List Sym) (V : List Token → Type 0) (ts after : List Placed) : Type 0 where
+pub record IsHeaderPart (now : Sym) (next : List Sym) (V : List Token → Type 0)
+    (ts after : List Placed) : Type 0 where
   pub front : List Placed
   pub parts : ts ≡ front ++ after
   pub value : V (words_of front)
-  pub leads : (stop : Stop) → WhyStops (AreSyms next) after stop → WhyStops (AreSyms (now ∷ next)) ts stop
+  pub leads : (stop : Stop) → WhyStops (AreSyms next) after stop
+      → WhyStops (AreSyms (now ∷ next)) ts stop
 
 -- the numbers of a range and its parenthesis
 abbrev pub AreBounds : ℕ → ℕ → List Token → Type 0
@@ -56,4 +58,5 @@ pub record HasHead (s : Start) (lo hi : ℕ) (ts after : List Placed) : Type 0 w
   pub front : List Placed
   pub parts : ts ≡ front ++ after
   pub value : IsHead s lo hi (words_of front)
-  pub leads : (stop : Stop) → WhyStops (AreSyms body_syms) after stop → WhyStops (AreSyms image_syms) ts stop
+  pub leads : (stop : Stop) → WhyStops (AreSyms body_syms) after stop
+      → WhyStops (AreSyms image_syms) ts stop

@@ -1,5 +1,6 @@
 -- Tables by number that are made from an object file.
-use Rattle.std.specs.Prelude.{◌≡◌, ℕ, ℤ, ◌<◌, ◌≤◌, ◌==◌, ◌||◌, Bool, List, length, slice_index, Option}
+use Rattle.std.specs.Prelude.{◌≡◌, ℕ, ℤ, ◌<◌, ◌≤◌, ◌==◌, ◌||◌, Bool, List, length, slice_index}
+use Rattle.std.specs.Prelude.{Option}
 use Rattle.std.specs.Prelude.{Some, None, if◌then◌else◌}
 use Rattle.std.specs.List.{slice_get}
 use Rattle.omos_model.specs.ElfValues.{shn_abs}
@@ -19,7 +20,8 @@ pub record ArePieceNumbers (file : List ℕ) (numbers : List ℕ) : Type 0 where
 
 -- the symbol is a number, a common one or in a kept section
 abbrev pub has_place : List ℕ → ℕ → Bool
-has_place file k = (st_shndx file k == shn_abs) || is_common file k || is_kept file (st_shndx file k)
+has_place file k = (st_shndx file k == shn_abs) || is_common file k
+    || is_kept file (st_shndx file k)
 
 abbrev pub export_of : List ℕ → ℕ → Export
 export_of file k = record { name = name_of file k; spot = spot_of file k }

@@ -1,8 +1,10 @@
 -- What a reader has before it.
-use Rattle.std.specs.Prelude.{◌≡◌, ◌≤◌, ℕ, List, [], ◌∷◌, Bool, true, false, ◌==◌, take, drop, length, IsTrue}
+use Rattle.std.specs.Prelude.{◌≡◌, ◌≤◌, ℕ, List, [], ◌∷◌, Bool, true, false, ◌==◌, take, drop}
+use Rattle.std.specs.Prelude.{length, IsTrue}
 use Rattle.std.specs.List.{list_all}
 use Rattle.omos_model.specs.Names.{is_name_byte}
-use Rattle.bp_tree.specs.Tokens.{Token, Open, Close, Word, Barred, Placed, tokens_from, begins_word, is_blank}
+use Rattle.bp_tree.specs.Tokens.{Token, Open, Close, Word, Barred, Placed, tokens_from, begins_word}
+use Rattle.bp_tree.specs.Tokens.{is_blank}
 use Rattle.bp_tree.specs.declared.token.Reader.{Reader}
 use Rattle.bp_tree.specs.declared.token.Next.{Next}
 use Rattle.bp_tree.specs.declared.token.Token as kind

@@ -8,7 +8,8 @@ use Rattle.omos_model.specs.declared.entry.Start.{Start}
 use Rattle.omos_model.specs.declared.expr.Expr.{Expr}
 use Rattle.bp_tree.specs.Tokens.{Token, Open, Close, Word, Placed}
 use Rattle.bp_tree.specs.Numerals.{IsNumeralOf}
-use Rattle.bp_tree.specs.Grammar.{AreExprs, IsOpened, IsExpr, IsStart, IsRange, op_words, IsOp, op_nesting}
+use Rattle.bp_tree.specs.Grammar.{AreExprs, IsOpened, IsExpr, IsStart, IsRange, op_words, IsOp}
+use Rattle.bp_tree.specs.Grammar.{op_nesting}
 use Rattle.bp_tree.specs.Texts.{words_of}
 use Rattle.bp_tree.specs.TextFaults.{Language, Begins, StopsAtToken}
 use Rattle.bp_tree.specs.declared.stop.Stop.{Stop}
@@ -148,7 +149,8 @@ Leads now ts after =
     → WhyStops (AreSyms (now ++ ss)) ts stop
 
 -- the symbols were read, and their tokens are as V says
-pub record AreRead (now : List Sym) (V : List Token → Type 0) (ts after : List Placed) : Type 0 where
+pub record AreRead (now : List Sym) (V : List Token → Type 0)
+    (ts after : List Placed) : Type 0 where
   pub front : List Placed
   pub parts : ts ≡ front ++ after
   pub value : V (words_of front)
@@ -165,4 +167,5 @@ pub record HasGrown (now : Sym) (V : List Token → Type 0) (ts after : List Pla
 -- one expression was read, and stands behind those that are given
 abbrev pub HasOneMore : ℕ → List Expr → List Expr → List Placed → List Placed → Type 0
 HasOneMore room given all ts after =
-    (x : Expr) × (all ≡ given ++ x ∷ []) × AreRead (AnExpr room ∷ []) (λ ws. IsExpr room ws x) ts after
+    (x : Expr) × (all ≡ given ++ x ∷ [])
+    × AreRead (AnExpr room ∷ []) (λ ws. IsExpr room ws x) ts after

@@ -1,0 +1,3 @@
+pub mod ByGroup
+pub mod Targets
+pub mod References
