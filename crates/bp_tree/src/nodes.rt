@@ -8,8 +8,10 @@ ghost use Rattle.omos_base.specs.SymNames.{IsSymName};
 ghost use Rattle.bp_tree.specs.Tokens as token;
 ghost use Rattle.bp_tree.specs.Grammar.{IsExpr, IsOpened};
 ghost use Rattle.bp_tree.specs.inside.Pending.{pending};
-ghost use Rattle.bp_tree.specs.inside.Symbols.{It, AName, Names, AnExpr, Inside, Exprs, AreRead, Fails};
-ghost use Rattle.bp_tree.specs.inside.Symbols.{IsOperator, arguments, behind, keyword, kind_nesting};
+ghost use Rattle.bp_tree.specs.inside.Symbols.{It, AName, Names, AnExpr, Inside, Exprs, AreRead};
+ghost use Rattle.bp_tree.specs.inside.Symbols.{Fails};
+ghost use Rattle.bp_tree.specs.inside.Symbols.{IsOperator, arguments, behind, keyword};
+ghost use Rattle.bp_tree.specs.inside.Symbols.{kind_nesting};
 ghost use Rattle.bp_tree.specs.inside.Symbols.{AreOperands, HasOneMore};
 
 use crate::form::{Applied, Form};
@@ -115,7 +117,8 @@ fn overridden<'a>(
     ensures { MatchFault result (λ r. AreRead (behind room Form.Override)
         (λ ws. IsOpened room (IsExpr room)
         (token.Open ∷ token.Word (keyword Form.Override) ∷ ws) r.0)
-        (pending from.entry) (pending r.1)) (Fails (behind room Form.Override) (pending from.entry)) }
+        (pending from.entry) (pending r.1))
+        (Fails (behind room Form.Override) (pending from.entry)) }
 {
     let (left, after) = expr(alloc, from, room)?;
     let (right, after) = expr(alloc, after, room)?;
@@ -242,7 +245,8 @@ fn merged<'a>(alloc: Global, from: Reader<'a>, room: u32) -> Result<(Expr, Reade
 #[cycle(expression)]
 fn inside<'a>(alloc: Global, from: Reader<'a>, room: u32) -> Result<(Expr, Reader<'a>), Fault<Stop>>
     ensures { MatchFault result (λ r. AreRead (Inside room ∷ [])
-        (λ ws. IsOpened room (IsExpr room) (token.Open ∷ ws) r.0) (pending from.entry) (pending r.1))
+        (λ ws. IsOpened room (IsExpr room) (token.Open ∷ ws) r.0)
+        (pending from.entry) (pending r.1))
         (Fails (Inside room ∷ []) (pending from.entry)) }
 {
     match from.next() {

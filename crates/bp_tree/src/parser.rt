@@ -1,7 +1,7 @@
 //! Blueprint text as an image.
 //!
-//! First the length, then the tokens by the grammar. Bytes that may not stand in a text are looked for
-//! only where it is no image: they come before any other fault.
+//! First the length, then the tokens by the grammar. Bytes that may not stand in a text are looked
+//! for only where it is no image: they come before any other fault.
 
 ghost use Rattle.std.specs.Prelude.{◌≡◌, ◌≤◌, [], All, length, MatchOption};
 ghost use Rattle.omos_base.specs.Fault.{MatchFault};

@@ -1,7 +1,7 @@
 //! Images as canonical text.
 //!
-//! `(image (entry main) (merge /a (freeze x /b)))`: one space between two tokens, but none after `(`
-//! and none before `)`; a start or a range that is the default is left out.
+//! `(image (entry main) (merge /a (freeze x /b)))`: one space between two tokens, but none after
+//! `(` and none before `)`; a start or a range that is the default is left out.
 
 ghost use Rattle.std.specs.Prelude.{◌≡◌, ◌++◌, ◌∷◌, [], codes, map, IfOk, OnOk, IsTrue, ◌↔◌};
 ghost use Rattle.std.specs.Fmt.{digits};

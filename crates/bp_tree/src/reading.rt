@@ -5,7 +5,8 @@ ghost use Rattle.std.specs.List.{list_all};
 ghost use Rattle.omos_model.specs.Names.{is_name_byte};
 ghost use Rattle.bp_tree.specs.Tokens.{begins_word};
 ghost use Rattle.bp_tree.specs.Tokens as spec;
-ghost use Rattle.bp_tree.specs.inside.Pending.{pending, begins_comment, AtByte, AtToken, IsFirstWord, IsNextToken};
+ghost use Rattle.bp_tree.specs.inside.Pending.{pending, begins_comment, AtByte, AtToken};
+ghost use Rattle.bp_tree.specs.inside.Pending.{IsFirstWord, IsNextToken};
 
 use crate::token::{Next, Reader, Token};
 use omos_base::is_name_byte;
@@ -92,7 +93,8 @@ impl<'a> Reader<'a> {
         Reader { rest, place }
     }
 
-    /// Goes past blanks and comments: past blanks alone first, since few tokens stand behind a comment.
+    /// Goes past blanks and comments: past blanks alone first, since few tokens stand behind a
+    /// comment.
     #[tactic(auto, using(crate::proofs::Runs::at_token))]
     fn skip(self) -> Reader<'a>
         ensures same { pending result ≡ pending self.entry }

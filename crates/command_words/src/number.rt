@@ -2,7 +2,8 @@
 
 ghost use Rattle.std.specs.Prelude.{◌≡◌, ◌+◌, ◌-◌, ◌*◌, ◌<◌, ◌≤◌, IsTrue, length};
 ghost use Rattle.std.specs.List.{list_all};
-ghost use Rattle.command_words.specs.Numbers.{has_lead, is_digit, is_number, number_said, decimal_value};
+ghost use Rattle.command_words.specs.Numbers.{has_lead, is_digit, is_number, number_said};
+ghost use Rattle.command_words.specs.Numbers.{decimal_value};
 
 /// A zero stands before another digit.
 fn has_lead(word: &[u8]) -> bool

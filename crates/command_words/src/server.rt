@@ -2,7 +2,8 @@
 
 ghost use Rattle.std.specs.Prelude.{◌≡◌, ◌≤◌, IfSome, map, string_bytes};
 ghost use Rattle.command_words.specs.Words.{AreWithin, is_word, count_said, limits_said, socket_of};
-ghost use Rattle.command_words.specs.Words.{socket_numbers, socket_words, stdio_limits, stdio_words};
+ghost use Rattle.command_words.specs.Words.{socket_numbers, socket_words, stdio_limits};
+ghost use Rattle.command_words.specs.Words.{stdio_words};
 ghost use Rattle.command_words.specs.Words.{workload_count, workload_words};
 
 use crate::number::number_of;

@@ -69,8 +69,8 @@ fn rela_fault(file: &[u8], kept: &[bool], table: Symbols<'_>) -> Option<ObjectFa
 /// It costs a pass over the section headers for each of O5, O6, O7, O10 and O11 and one to find the
 /// kept ones, two over the symbols, two over the names of exports, and one over the relocations.
 /// Whatever the names are, an export costs a number of comparisons that grows with the logarithm of
-/// their count. The memory is a byte a section and, given back, 32 bytes an export and what a set of
-/// those names takes whose place is taken.
+/// their count. The memory is a byte a section and, given back, 32 bytes an export and what a set
+/// of those names takes whose place is taken.
 pub fn read_tables(alloc: Global, file: &[u8]) -> Result<Tables<'_>, Fault<ObjectFault>>
     ensures tables { MatchFault result
         (λ t. (t ≡ file.now) × (object_fault file.now ≡ None))

@@ -5,7 +5,8 @@ ghost use Rattle.std.specs.Prelude.{◌≡◌, ◌<◌, ◌≤◌, ◌==◌, ◌
 ghost use Rattle.std.specs.List.{filter_map};
 ghost use Rattle.omos_model.specs.ElfValues.{shn_undef, stb_weak};
 ghost use Rattle.omos_model.specs.ElfFields.{binding, is_section, st_shndx, symbol_count};
-ghost use Rattle.omos_model.specs.ElfFaults.{entries, entry_count, is_aim_of, is_used_rela, kind_of};
+ghost use Rattle.omos_model.specs.ElfFaults.{entries, entry_count, is_aim_of, is_used_rela};
+ghost use Rattle.omos_model.specs.ElfFaults.{kind_of};
 ghost use Rattle.omos_model.specs.ElfFaults.{object_fault};
 ghost use Rattle.omos_model.specs.FragmentOf.{aim_of, fixup_of};
 ghost use Rattle.omos_model.specs.Numbers.{numbers_from};
@@ -24,7 +25,8 @@ use std::alloc::Global;
 /// Whether a symbol is WEAK, and defined elsewhere or nowhere.
 fn is_weak_reference(tables: &Tables<'_>, k: u32) -> bool
     requires { k < symbol_count tables.now }
-    ensures { result ≡ ((st_shndx tables.now k == shn_undef) && (binding tables.now k == stb_weak)) }
+    ensures { result
+        ≡ ((st_shndx tables.now k == shn_undef) && (binding tables.now k == stb_weak)) }
 {
     index(tables, k) == SHN_UNDEF && binding(tables, k) == STB_WEAK
 }

@@ -1,6 +1,7 @@
 //! The pieces: the kept sections by number, then the common symbols by number.
 
-ghost use Rattle.std.specs.Prelude.{◌≡◌, ◌<◌, ◌≤◌, ◌/◌, ◌%◌, ◌==◌, ◌||◌, ◌++◌, None, IfOk, IsTrue, OnOk, filter, map};
+ghost use Rattle.std.specs.Prelude.{◌≡◌, ◌<◌, ◌≤◌, ◌/◌, ◌%◌, ◌==◌, ◌||◌, ◌++◌, None, IfOk, IsTrue};
+ghost use Rattle.std.specs.Prelude.{OnOk, filter, map};
 ghost use Rattle.omos_model.specs.FragmentParts.{is_alignment};
 ghost use Rattle.omos_model.specs.ElfFields.{e_shnum, symbol_count, symbols};
 ghost use Rattle.omos_model.specs.ElfFaults.{is_kept, object_fault};
@@ -63,7 +64,8 @@ fn piece_of_section(alloc: Global, tables: &Tables<'_>, i: u32) -> Result<Piece,
 
 fn section_pieces(alloc: Global, tables: &Tables<'_>) -> Result<Row<Piece>, NoMemory>
     requires { object_fault tables.now ≡ None }
-    ensures { IfOk result (λ ps. ps ≡ map (piece_of_section tables.now) (kept_sections tables.now)) }
+    ensures { IfOk result
+        (λ ps. ps ≡ map (piece_of_section tables.now) (kept_sections tables.now)) }
 {
     let mut pieces = Row::new(alloc);
     for i in 1..tables.sections() {

@@ -31,9 +31,9 @@ fn entry_in(layout: &Layout, places: &[Row<u64>], base: u64) -> u64
 /// The file of a laid out module at a base: a static executable (System V gABI, chapters 4 and 5).
 ///
 /// The layout is the module's, the base is a whole page, and the pages end at 2^47 at most. It
-/// refuses the first field whose value doesn't fit: L13. Sizes, places and the start are read from the
-/// layout. The cost is that of the file's bytes and of the references, with one look-up for each
-/// that asks for a slot.
+/// refuses the first field whose value doesn't fit: L13. Sizes, places and the start are read from
+/// the layout. The cost is that of the file's bytes and of the references, with one look-up for
+/// each that asks for a slot.
 pub fn write(
     alloc: Global,
     evaluated: &Evaluated,

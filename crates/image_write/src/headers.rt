@@ -6,7 +6,8 @@ ghost use Rattle.elf_words.specs.Phdr.{phdr_bytes};
 ghost use Rattle.omos_model.specs.declared.fragment.Group.{Group};
 ghost use Rattle.link_model.specs.ImageBytes.{file_size, flags_of, stack};
 ghost use Rattle.link_model.specs.Groups.{bytes_of};
-ghost use Rattle.image_write.specs.inside.Headers.{ehdr_with, headers_in, load_in, loads_in, page_in};
+ghost use Rattle.image_write.specs.inside.Headers.{ehdr_with, headers_in, load_in, loads_in};
+ghost use Rattle.image_write.specs.inside.Headers.{page_in};
 
 use elf_words::{Ehdr, Phdr, push_record};
 use link_model::Groups;

@@ -42,7 +42,8 @@ fn measure(alloc: Global, seed: Seed, program: &Program) -> Result<(Row<Target>,
 
 /// What the start is, if the program has one. It refuses a start whose name isn't defined: L10.
 fn start_of(program: &Program) -> Result<Option<Target>, Fault<Refusal>>
-    ensures refusal { RefusesFor (no_start (program_meaning program.now) program.now.start.now) result }
+    ensures refusal { RefusesFor
+        (no_start (program_meaning program.now) program.now.start.now) result }
     ensures entry { IfOk result
         (λ entry. entry ≡ entry_of (program_meaning program.now) program.now.start.now) }
 {

@@ -5,7 +5,8 @@ ghost use Rattle.omos_model.specs.declared.fragment.Group.{Group};
 ghost use Rattle.link_model.specs.Layout.{begin_of, end_with};
 ghost use Rattle.link_model.specs.Groups.{bytes_of};
 ghost use Rattle.link_layout.specs.Layout.{AreEnds};
-ghost use Rattle.link_layout.specs.Pieces.{AreBounded, IsBoundedPiece, IsLawful, all_pieces, pieces_in};
+ghost use Rattle.link_layout.specs.Pieces.{AreBounded, IsBoundedPiece, IsLawful, all_pieces};
+ghost use Rattle.link_layout.specs.Pieces.{pieces_in};
 
 use crate::offsets::aligned;
 use link_model::ByGroup;

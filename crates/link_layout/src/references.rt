@@ -6,7 +6,8 @@ ghost use Rattle.std.specs.Option.{option_copied, option_map};
 ghost use Rattle.omos_model.specs.declared.refusal.Refusal.TheVariants.{Unresolved};
 ghost use Rattle.link_model.specs.Plan.{is_weak};
 ghost use Rattle.link_model.specs.Program.{reference_of};
-ghost use Rattle.link_layout.specs.inside.References.{RefusesFor, refusal_among, refusal_in, refusal_for};
+ghost use Rattle.link_layout.specs.inside.References.{RefusesFor, refusal_among, refusal_in};
+ghost use Rattle.link_layout.specs.inside.References.{refusal_for};
 
 use crate::slots::fixups_in;
 use omos_base::{Fault, Row, Shared, SymName};

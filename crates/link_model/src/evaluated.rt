@@ -42,7 +42,8 @@ impl Model for Evaluated {
 
     ghost coded = { Prim.hlevel (codes, expr.the_row.coded) };
 
-    ghost view = { λ e. module_of e.path e.leaves e.landings e.names e.footprint e.start e.lo e.hi };
+    ghost view = { λ e.
+        module_of e.path e.leaves e.landings e.names e.footprint e.start e.lo e.hi };
 
     ghost invariant = { λ e.
         IsModule (module_of e.path e.leaves e.landings e.names e.footprint e.start e.lo e.hi) };

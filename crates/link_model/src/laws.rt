@@ -20,8 +20,8 @@ pub fn modules_have_their_plan()
     ensures { OwnPlanLaw }
 {}
 
-/// What a reference lands on, in a module and in the program of which a path's plan is made, is what
-/// descent through the path's term finds for its leaf and number.
+/// What a reference lands on, in a module and in the program of which a path's plan is made, is
+/// what descent through the path's term finds for its leaf and number.
 pub fn landings_are_found_by_descent()
     ensures in_module { ModuleLandingsLaw }
     ensures in_program { ProgramLandingsLaw }

@@ -39,7 +39,8 @@ impl Model for Linked {
 impl Linked {
     /// The image of a plan at a base. It shares the plan's footprint.
     pub fn of(planned: &Planned, base: u64, bytes: Bytes) -> Result<Linked, NoMemory>
-        requires answered { answer planned.now.evaluated.footprint planned.now.evaluated.path base ≡ Ok bytes }
+        requires answered { answer planned.now.evaluated.footprint
+            planned.now.evaluated.path base ≡ Ok bytes }
         requires within { base + 4096 * planned.now.layout.pages ≤ 2 ^ 47 }
         ensures { IfOk result (λ l. l ≡ linked_of planned.now base bytes) }
     {

@@ -81,7 +81,8 @@ fn finish(
 ///
 /// It reads each path once for each node that names it, and applies each operator once, to tables
 /// that are moved; no object is copied. The nodes of a blueprint that have begun wait in a list, so
-/// its calls go only as deep as blueprints stand inside one another: six calls at each of at most 32.
+/// its calls go only as deep as blueprints stand inside one another: six calls at each of at most
+/// 32.
 pub fn evaluate<L: Ledger>(
     alloc: Global,
     snap: &Snap,

@@ -212,7 +212,8 @@ pub fn apply<L: Ledger>(
     steps: &mut Steps<L>,
 ) -> Result<Part, NoMemory>
     ensures meant { (t : Term) → Means counting part t
-        → IfOk result (λ p. Means counting p (Apply (site_of at.now node) (op_of operator.entry) t)) }
+        → IfOk result (λ p. Means counting p
+        (Apply (site_of at.now node) (op_of operator.entry) t)) }
     ensures cost { steps.new ≤ steps.old + 1 }
     ensures still { counting ≡ true → steps.new ≡ steps.old }
 {

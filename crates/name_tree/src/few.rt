@@ -1,6 +1,7 @@
 //! Up to 64 values in place.
 
-ghost use Rattle.std.specs.Prelude.{◌≡◌, ◌+◌, ◌<◌, ◌≤◌, ◌++◌, length, take, drop, get_or, IfOk, OnOk};
+ghost use Rattle.std.specs.Prelude.{◌≡◌, ◌+◌, ◌<◌, ◌≤◌, ◌++◌, length, take, drop, get_or, IfOk};
+ghost use Rattle.std.specs.Prelude.{OnOk};
 ghost use Rattle.name_tree.specs.inside.Few.{IsRow};
 
 use omos_base::{NoMemory, Row, Shared};
@@ -46,7 +47,8 @@ impl<T> Model for Few<T> {
 
     ghost view = { λ few. take few.count (row_values few.rows) };
 
-    ghost invariant = { λ few. (few.count ≤ 64) × (length few.rows ≡ 8) × (length (row_values few.rows) ≡ 64) };
+    ghost invariant = { λ few. (few.count ≤ 64) × (length few.rows ≡ 8)
+        × (length (row_values few.rows) ≡ 64) };
 }
 
 impl<T> Few<T> {

@@ -1,5 +1,5 @@
-//! `omosd`, the linker server. It hands the words of the command line and the real outside to the top
-//! calls of the crates `omosd_calls`, `session_calls` and `workload_calls`, and ends with their
+//! `omosd`, the linker server. It hands the words of the command line and the real outside to the
+//! top calls of the crates `omosd_calls`, `session_calls` and `workload_calls`, and ends with their
 //! status.
 #![tactic(auto)]
 

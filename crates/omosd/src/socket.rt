@@ -13,9 +13,9 @@ use std::rt::Files;
 use std::sync::Wait;
 use std::thread::Threads;
 
-/// Serves all sessions at the listener, with a door and a gate that never waits for each worker. The
-/// result is the status: that of the call; or 8 where there is no memory, and 9 where the listener
-/// can't be shared.
+/// Serves all sessions at the listener, with a door and a gate that never waits for each worker.
+/// The result is the status: that of the call; or 8 where there is no memory, and 9 where the
+/// listener can't be shared.
 fn serve_listener<R: Threads + Wait + Sync + Print>(
     rt: &R,
     alloc: Global,

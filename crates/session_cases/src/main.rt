@@ -5,8 +5,8 @@
 //!
 //! The wanted replies were worked out by hand from the rules of docs/FORMATS.md. A short session is
 //! also read in pieces of 1, 7 and 4,096 bytes; a brief one that should end well is cut behind each
-//! byte, and each of its reads and writes fails in turn: then it ends by the status that the formats
-//! name, and its replies are those of the whole frames.
+//! byte, and each of its reads and writes fails in turn: then it ends by the status that the
+//! formats name, and its replies are those of the whole frames.
 #![tactic(auto)]
 
 mod outcome;

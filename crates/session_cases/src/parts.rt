@@ -23,9 +23,9 @@ fn call_behind(bytes: usize) -> u32 {
     u32::try_from(bytes).unwrap_or(u32::MAX).saturating_add(1)
 }
 
-/// What a run over the first bytes of a stream has to come to: whether it ends between two frames or
-/// behind the end, and how many bytes of the whole run's replies it writes. Each whole frame has one
-/// reply, and none behind the end has any.
+/// What a run over the first bytes of a stream has to come to: whether it ends between two frames
+/// or behind the end, and how many bytes of the whole run's replies it writes. Each whole frame has
+/// one reply, and none behind the end has any.
 fn wanted_of(stream: &[u8], replies: &[u8], bytes: usize) -> (bool, usize) {
     let mut left = bytes;
     let mut requests = stream;

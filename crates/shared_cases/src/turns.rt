@@ -64,8 +64,8 @@ fn one(alloc: Global, number: u32) -> Result<Row<u32>> {
     Ok(row)
 }
 
-/// A slot at whose door one session comes, which gives and takes a byte a call, and of which the read
-/// and the write of these numbers fail, from 1; at 0 none does.
+/// A slot at whose door one session comes, which gives and takes a byte a call, and of which the
+/// read and the write of these numbers fail, from 1; at 0 none does.
 fn slot_of(alloc: Global, frames: &[u8], read: u32, write: u32) -> Result<MemorySlot>
     ensures { IfOk result (λ slot. (slot.door.is_shut ≡ false) × (slot.door.links ≡ 0)
         × (slot.door.faults ≡ 0) × (slot.gate.crossings ≡ 0)) }

@@ -1,7 +1,7 @@
 //! Publishes so many paths one after another, for bench/publish.sh: `version_bench tree COUNT` by
-//! versions as trees, of which the last is kept; `kept COUNT` the same, with every version kept; and
-//! `list COUNT` by plain lists in the order of paths, each copied from the one before. It prints how
-//! many paths the last version has. COUNT is at most 65,536.
+//! versions as trees, of which the last is kept; `kept COUNT` the same, with every version kept;
+//! and `list COUNT` by plain lists in the order of paths, each copied from the one before. It
+//! prints how many paths the last version has. COUNT is at most 65,536.
 #![tactic(auto)]
 
 mod listed;
