@@ -21,7 +21,7 @@ use Rattle.omos_model.specs.declared.refusal.Refusal.{Refusal}
 use Rattle.omos_model.specs.declared.refusal.Refusal.TheVariants.{NoEntry, Cycle, TooDeep}
 use Rattle.omos_model.specs.Visit.{Visit}
 use Rattle.omos_model.specs.declared.refusal.Site.{Site}
-use Rattle.module_table.specs.inside.Faults.{Tells}
+use Rattle.module_table.specs.Faults.{Tells}
 use Rattle.module_eval.specs.Counted.{StepsToNode, visit_of}
 use Rattle.module_eval.specs.Walked.{Walked, Bars, path_in, tree_in}
 use Rattle.module_eval.specs.declared.counts.Counts.{Counts}
