@@ -39,7 +39,7 @@ fn next_value(value: u32, digit: u8) -> u32
 }
 
 /// The value of at most nine digits.
-fn decimal_value(word: &[u8]) -> u32
+fn value_of(word: &[u8]) -> u32
     requires few { length word.now ≤ 9 }
     requires digits { IsTrue (list_all is_digit word.now) }
     ensures { result ≡ decimal_value word.now }
@@ -53,11 +53,11 @@ fn decimal_value(word: &[u8]) -> u32
 
 /// The number that a word of a command line says: 1 to 9 decimal digits, of which the first is a
 /// zero only where it is the only one. None where the word is no such number.
-pub fn number_said(word: &[u8]) -> Option<u32>
+pub fn number_of(word: &[u8]) -> Option<u32>
     ensures { result ≡ number_said word.now }
 {
     if is_number(word) {
-        Some(decimal_value(word))
+        Some(value_of(word))
     } else {
         None
     }

@@ -30,7 +30,7 @@ fn is_word(word: &str, text: &str) -> bool
 }
 
 /// The limits that two words say.
-fn limits_said(cache: &str, steps: &str) -> Option<Limits>
+fn limits_of(cache: &str, steps: &str) -> Option<Limits>
     ensures { result ≡ limits_said cache.now steps.now }
 {
     let cache = number_of(cache.as_bytes())?;
@@ -39,7 +39,7 @@ fn limits_said(cache: &str, steps: &str) -> Option<Limits>
 }
 
 /// The count that a word says, if it lies from 1 to so much.
-fn count_said(word: &str, most: u32) -> Option<u32>
+fn count_of(word: &str, most: u32) -> Option<u32>
     ensures said { result ≡ count_said most word.now }
     ensures within { IfSome result (λ n. (1 ≤ n) × (n ≤ most)) }
 {
@@ -56,7 +56,7 @@ fn stdio_limits(command: &str, cache: &str, steps: &str) -> Option<Limits>
     ensures { result ≡ stdio_limits command.now cache.now steps.now }
 {
     if is_word(command, "stdio") {
-        limits_said(cache, steps)
+        limits_of(cache, steps)
     } else {
         None
     }
@@ -67,7 +67,7 @@ fn workload_count(command: &str, count: &str) -> Option<u32>
     ensures { result ≡ workload_count command.now count.now }
 {
     if is_word(command, "workload") {
-        count_said(count, 200)
+        count_of(count, 200)
     } else {
         None
     }
@@ -78,9 +78,9 @@ fn socket_numbers(workers: &str, sessions: &str, cache: &str, steps: &str) -> Op
     ensures said { result ≡ socket_numbers workers.now sessions.now cache.now steps.now }
     ensures within { IfSome result AreWithin }
 {
-    let workers = count_said(workers, 16)?;
-    let sessions = count_said(sessions, 1_000_000)?;
-    let limits = limits_said(cache, steps)?;
+    let workers = count_of(workers, 16)?;
+    let sessions = count_of(sessions, 1_000_000)?;
+    let limits = limits_of(cache, steps)?;
     Some(SocketWords {
         workers,
         sessions,

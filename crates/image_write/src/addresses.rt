@@ -17,7 +17,7 @@ pub fn row_in(places: &[Row<u64>], leaf: u32) -> &[u64]
 }
 
 /// Where a piece of a row stands, counted from the base; a piece that isn't there stands at 0.
-pub fn place_in_row(row: &[u64], piece: u32) -> u64
+pub fn place_at(row: &[u64], piece: u32) -> u64
     ensures { result ≡ place_in_row row.now piece }
 {
     match row.get(piece as usize) {
@@ -37,7 +37,7 @@ pub fn address_in(places: &[Row<u64>], base: u64, target: Target) -> u64
             leaf,
             piece,
             offset,
-        } => base + place_in_row(row_in(places, leaf), piece) + u64::from(offset),
+        } => base + place_at(row_in(places, leaf), piece) + u64::from(offset),
         Target::Fixed { value } => value,
     }
 }

@@ -5,7 +5,7 @@ use Rattle.image_write.proofs.fields.patch.Goals as goal
 
 pub returns : goal.returns
 returns c =
-    let begin = c.place_in_row.ensures
+    let begin = c.place_at.ensures
     ∙ ap (λ row. place_in_row row c.args.fixup.now.piece) c.requires.row in
     patched-at c.args.ground.now.places.now c.args.ground.now.table.now c.args.ground.now.base _ _
     c.in-Some.field _ _ (λ i. begin i + c.from.ensures i) c.in-Some.ensures c.requires.inside.inside
