@@ -22,7 +22,8 @@ use Rattle.module_share.proofs.Growth.{Grown, Grows, expand_grown, visit_grown}
 use Rattle.module_share.proofs.Named.{WasOpened, named_opened}
 use Rattle.module_eval.specs.Costs.{is_built}
 use Rattle.module_eval.specs.Known.{AreKnown, is_closed, is_closed_in, is_done}
-use Rattle.module_eval.specs.Reaches.{Fits, IsReach, added, tally_of, with_added}
+use Rattle.module_eval.specs.Reaches.{Fits, IsReach, added, with_added}
+use Rattle.module_eval.specs.Reaches.{PassesNoLimit, tally_of_visit}
 use Rattle.module_eval.specs.Walked.{tree_in}
 use Rattle.module_eval.specs.declared.memo.Kept.{Kept}
 use Rattle.module_eval.specs.declared.reach.Reach.{Reach}
@@ -93,7 +94,8 @@ module _ (ns : Space) (limit : ℕ) (above : List Name) (path : Name) (x : Tree)
 
   -- what it added is its reach
   pub reach_of : (reach : Reach) → source ns path ≡ Some (Blueprint x) → length above < limit
-      → reach.height ≡ limit - length above → reach.added ≡ added (tally_of v) (tally_of w)
+      → reach.height ≡ limit - length above
+      → reach.added ≡ added (tally_of_visit v) (tally_of_visit w)
       → IsReach ns path reach
   reach_of reach there few height sum =
       let g = went in

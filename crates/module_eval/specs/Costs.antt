@@ -42,15 +42,15 @@ abbrev pub read_of : Space → List (Name × Bor Stamped) → ℕ
 read_of ns read = operators_of ns (keys_of read)
 
 -- the operators of further operands, and those that join them
-abbrev pub joined : List Expr → ℕ
-joined [] = 0
-joined (x ∷ xs) = operators (tree_of x) + 1 + joined xs
+abbrev pub joins : List Expr → ℕ
+joins [] = 0
+joins (x ∷ xs) = operators (tree_of x) + 1 + joins xs
 
 -- the operators that are still to be applied at a pending node
 abbrev pub owed_by : Pending → ℕ
 owed_by (Under node op) = 1
-owed_by (First node join others) = joined others
-owed_by (Right node join left others) = 1 + joined others
+owed_by (First node join others) = joins others
+owed_by (Right node join left others) = 1 + joins others
 
 abbrev pub owed : List Pending → ℕ
 owed pending = sum_by owed_by pending

@@ -13,8 +13,8 @@ use Rattle.module_eval.specs.declared.reach.Reach.{Reach}
 use Rattle.module_eval.specs.declared.reach.Tally.{Tally}
 
 -- the counts that have limits
-abbrev pub tally_of : Visit → Tally
-tally_of v =
+abbrev pub tally_of_visit : Visit → Tally
+tally_of_visit v =
     record { nodes = v.nodes; leaves = v.leaves; exports = v.exports; fixups = v.fixups }
 
 -- what was added from some counts to others
@@ -45,8 +45,8 @@ pub record Fits (t : Tally) (v : Visit) : Type 0 where
   pub fixups : t.fixups + v.fixups ≤ max_sum
 
 -- a use inside so many open blueprints passes no limit
-abbrev pub HasRoom : Reach → ℕ → Visit → Type 0
-HasRoom reach depth v = (reach.height + depth ≤ max_blueprints) × Fits reach.added v
+abbrev pub PassesNoLimit : Reach → ℕ → Visit → Type 0
+PassesNoLimit reach depth v = (reach.height + depth ≤ max_blueprints) × Fits reach.added v
 
 -- somewhere the blueprint's expression is expanded with no more than so many blueprints inside one
 -- another, itself among them, and adds so much to the counts

@@ -7,7 +7,7 @@ ghost use Rattle.omos_model.specs.ImageParts.{is_formed};
 ghost use Rattle.omos_model.specs.Term.{Term};
 ghost use Rattle.omos_model.specs.Tree.{tree_of};
 ghost use Rattle.module_share.specs.Trails.{Trail};
-ghost use Rattle.module_eval.specs.Costs.{joined, operators, owed, owed_by};
+ghost use Rattle.module_eval.specs.Costs.{joins, operators, owed, owed_by};
 ghost use Rattle.module_eval.specs.Counted.{visit_of};
 ghost use Rattle.module_eval.specs.Meant.{Means};
 ghost use Rattle.module_eval.specs.Pendings.{Comes, ComesTo, EndsAt, others_in};
@@ -169,7 +169,7 @@ fn visit_others<'a, L: Ledger>(
     ensures done { OnOk result (length pending.new + walk.old.counts.nodes
         ≤ length pending.old + walk.new.counts.nodes) }
     ensures cost { Charges (space_of place.now) place.now.counting
-        (joined others.entry + owed pending.old) (owed pending.new)
+        (joins others.entry + owed pending.old) (owed pending.new)
         walk.old.counts walk.new.counts steps.old steps.new }
 {
     let Some((operand, others)) = others.split_first() else {

@@ -3,7 +3,8 @@
 ghost use Rattle.std.specs.Prelude.{◌≡◌, ◌≤◌, ◌-◌, ◌↔◌, IsTrue, max};
 ghost use Rattle.omos_model.specs.Expansion.{max_blueprints};
 ghost use Rattle.module_eval.specs.Counted.{AreCounted, visit_of};
-ghost use Rattle.module_eval.specs.Reaches.{Fits, HasRoom, added, tally_of, with_added};
+ghost use Rattle.module_eval.specs.Reaches.{Fits, added, with_added};
+ghost use Rattle.module_eval.specs.Reaches.{PassesNoLimit, tally_of_visit};
 
 use crate::counts::{Counts, MAX_LEAVES, MAX_NODES, MAX_SUM};
 use crate::opening::MAX_BLUEPRINTS;
@@ -28,7 +29,7 @@ pub struct Reach {
 impl Tally {
     /// The counts as they are.
     pub fn of(counts: &Counts<'_>) -> Tally
-        ensures { result ≡ tally_of (visit_of counts.now) }
+        ensures { result ≡ tally_of_visit (visit_of counts.now) }
     {
         Tally {
             nodes: counts.nodes,
@@ -80,7 +81,7 @@ impl Reach {
     /// The reach of a blueprint of this height that went from these counts on.
     pub fn of(height: u32, before: Tally, counts: &Counts<'_>) -> Reach
         ensures height { result.height ≡ height }
-        ensures added { result.added ≡ added before (tally_of (visit_of counts.now)) }
+        ensures added { result.added ≡ added before (tally_of_visit (visit_of counts.now)) }
     {
         Reach {
             height,
@@ -92,7 +93,7 @@ impl Reach {
     pub fn has_room(&self, depth: usize, counts: &Counts<'_>) -> bool
         requires counted { AreCounted counts.now }
         requires depth { depth ≤ max_blueprints }
-        ensures { IsTrue result ↔ HasRoom self.now depth (visit_of counts.now) }
+        ensures { IsTrue result ↔ PassesNoLimit self.now depth (visit_of counts.now) }
     {
         self.height as usize <= MAX_BLUEPRINTS - depth && self.added.fits(counts)
     }

@@ -9,7 +9,7 @@ use Rattle.turn_lock.specs.declared.rule.View.{View}
 use Rattle.turn_lock.specs.declared.rule.Stage.TheVariants.{Free}
 use Rattle.turn_lock.specs.Steps.{Has, AllBelow, GoesOn}
 use Rattle.turn_lock.specs.Views.{is_spent, is_busy, tickets_of, view_numbers, tickets}
-use Rattle.turn_lock.specs.Rule.{World, Home, Kept}
+use Rattle.turn_lock.specs.inside.Rule.{World, Home, Kept}
 use Rattle.turn_lock.specs.Views.{is_ready}
 use Rattle.turn_lock.proofs.Lists.{total_none, inside, same_some}
 use Rattle.turn_lock.proofs.Seats.{AllBelow-tail, nothing_left}

@@ -14,8 +14,10 @@ use Rattle.turn_lock.specs.declared.rule.View.{View}
 use Rattle.turn_lock.specs.declared.rule.Stage.TheVariants.{Free}
 use Rattle.turn_lock.specs.Steps.{Has, AllBelow, GoesOn}
 use Rattle.turn_lock.specs.Views.{is_spent, is_busy, tickets_of, new_view, spent, view_numbers}
-use Rattle.turn_lock.specs.Views.{tickets, drawn, splitter, new_split, both, settle, Gone}
-use Rattle.turn_lock.specs.Rule.{World, Stands, Live, Home, Kept}
+use Rattle.turn_lock.specs.Views.{tickets, drawn, splitter, new_split, settle, Gone}
+use Rattle.turn_lock.specs.Views.{both_views}
+use Rattle.turn_lock.specs.inside.Rule.{World, Live, Home, Kept}
+use Rattle.turn_lock.specs.inside.Rule.{StandsAtStage}
 use Rattle.turn_lock.specs.Tells.{settled}
 use Rattle.turn_lock.proofs.Lists.{total_set, total_snoc, inside, same_some, not_both, snoc_cases}
 use Rattle.turn_lock.proofs.Seats.{Has-append, AllBelow_up, goes_nowhere, goes_from_nothing}
@@ -94,7 +96,7 @@ module _ {T X : Type 0} (steps : T → List X) (seat_of : X → ℕ) (first seco
               late_all = λ p. absurd p;
               first = l.first;
               second = l.second;
-              stands = subst (Stands z' id w.seen) (sym free) tt;
+              stands = subst (StandsAtStage z' id w.seen) (sym free) tt;
             }
             (home_set steps seat_of first second opening s r id v w r.owners at (ap is_busy free)),
         (
@@ -168,7 +170,7 @@ module _ {T X : Type 0} (steps : T → List X) (seat_of : X → ℕ) (first seco
               late_all = λ p. omega (arith, all, longer_by);
               first = l.first;
               second = l.second;
-              stands = subst (Stands z' id w.seen) (sym free) tt;
+              stands = subst (StandsAtStage z' id w.seen) (sym free) tt;
             }))
             (λ (t : (j ≢ id) × (get_elem? s.views j ≡ some x)). let k =
             r.each j x t.1 alive in let made = k.made in record {
@@ -218,9 +220,9 @@ module _ {T X : Type 0} (steps : T → List X) (seat_of : X → ℕ) (first seco
       }
 
   pub joins : (id : ℕ) (v : V) (other : ℕ) (w : V) → v.stage ≡ Free → w.stage ≡ Free
-      → Joins Rule id v other w (both v w) spent
+      → Joins Rule id v other w (both_views v w) spent
   joins id v other w free free' s r at apart there =
-      let b : V = both v w in
+      let b : V = both_views v w in
       let live : is_spent v.stage ≡ false = ap is_spent free in
       let live' : is_spent w.stage ≡ false = ap is_spent free' in
       let there' : get_elem? s.views other ≡ some w = sym (set_else s.views id other b apart)
@@ -283,7 +285,7 @@ module _ {T X : Type 0} (steps : T → List X) (seat_of : X → ℕ) (first seco
               late_all = λ p. let a = k.all p in omega (arith, a, m, same);
               first = l.first;
               second = l.second;
-              stands = subst (Stands z' id b.seen) (sym free) tt;
+              stands = subst (StandsAtStage z' id b.seen) (sym free) tt;
             }))
             (λ (q : (j ≢ id) × (get_elem? s.views j ≡ some x)). let h =
             r.each j x q.1 alive in stays seat_of z z' j x x.stage (λ g. g) (λ g. g)

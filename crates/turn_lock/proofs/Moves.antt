@@ -9,7 +9,7 @@ use Rattle.atomic_table.proofs.Lists.{at_set, set_else, set_again}
 use Rattle.turn_lock.specs.declared.rule.View.{View}
 use Rattle.turn_lock.specs.Steps.{AllBelow}
 use Rattle.turn_lock.specs.Views.{is_spent, is_busy, tickets, drawn}
-use Rattle.turn_lock.specs.Rule.{World, Live, Home, world, Kept}
+use Rattle.turn_lock.specs.inside.Rule.{World, Live, Home, world, Kept}
 use Rattle.turn_lock.proofs.Lists.{total_set, total_le, same_some, not_both}
 
 module _ {T X : Type 0} (steps : T → List X) (seat_of : X → ℕ) (first second : T → ℕ)

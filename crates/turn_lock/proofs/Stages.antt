@@ -10,7 +10,8 @@ use Rattle.turn_lock.specs.declared.rule.Stage.TheVariants.{Free, Waiting, Open,
 use Rattle.turn_lock.specs.Steps.{GoesOn}
 use Rattle.turn_lock.specs.Views.{is_spent, is_busy, tickets_of, drawn_by, view_numbers, in_stage}
 use Rattle.turn_lock.specs.Views.{Gone}
-use Rattle.turn_lock.specs.Rule.{World, Stands, Live}
+use Rattle.turn_lock.specs.inside.Rule.{World, Live}
+use Rattle.turn_lock.specs.inside.Rule.{StandsAtStage}
 use Rattle.turn_lock.specs.Views.{is_ready, view_in}
 use Rattle.turn_lock.proofs.Lists.{same_some, not_both}
 
@@ -85,7 +86,7 @@ module _ {T X : Type 0} where
       → (GoesOn seat_of (view_numbers u) u.seen z.log
       → GoesOn seat_of (view_numbers u) u.seen z'.log)
       → (GoesOn seat_of u.late u.late_seen z.log → GoesOn seat_of u.late u.late_seen z'.log)
-      → Stands z' j u.seen st
+      → StandsAtStage z' j u.seen st
       → ((n : ℕ) → Gone z.views n → Gone z'.views n) → length z'.views ≡ length z.views
       → z'.first ≡ z.first → z'.second ≡ z.second
       → Live seat_of z j u → Live seat_of z' j (in_stage u st)
@@ -109,7 +110,7 @@ module _ {T X : Type 0} where
   pub stands_on : (z z' : World T X) (i : ℕ) (seen : List X) (st : Stage) → z'.left ≡ z.left
       → ((t : ℕ) → get_elem? z.owners t ≡ some i → get_elem? z'.owners t ≡ some i)
       → z'.homes ≡ z.homes → z'.log ≡ z.log
-      → Stands z i seen st → Stands z' i seen st
+      → StandsAtStage z i seen st → StandsAtStage z' i seen st
   stands_on z z' i seen Free left owns homes log s = tt
   stands_on z z' i seen (Waiting t) left owns homes log s =
       let h = s.0 in
@@ -122,7 +123,7 @@ module _ {T X : Type 0} where
 
   -- who has its turn holds the first ticket out
   pub busy_first : (z : World T X) (i : ℕ) (seen : List X) (st : Stage) → is_busy st ≡ true
-      → Stands z i seen st → (get_elem? z.owners z.left ≡ some i) × (seen ≡ z.log)
+      → StandsAtStage z i seen st → (get_elem? z.owners z.left ≡ some i) × (seen ≡ z.log)
   busy_first z i seen Free b s = absurd (true≢false (sym b))
   busy_first z i seen (Waiting t) b s = absurd (true≢false (sym b))
   busy_first z i seen (Open t) b s = (subst (λ (k : ℕ). get_elem? z.owners k ≡ some i) s.0 s.1, s.3)
@@ -132,7 +133,8 @@ module _ {T X : Type 0} where
   -- the others wait, where one has its turn
   pub others_wait : (z z' : World T X) (j id : ℕ) (seen : List X) (st : Stage)
       → get_elem? z.owners z.left ≡ some id → j ≢ id → z'.owners ≡ z.owners
-      → ((t : ℕ) → z.left ≤ t → t ≢ z.left → z'.left ≤ t) → Stands z j seen st → Stands z' j seen st
+      → ((t : ℕ) → z.left ≤ t → t ≢ z.left → z'.left ≤ t) → StandsAtStage z j seen st
+      → StandsAtStage z' j seen st
   others_wait z z' j id seen Free mine apart owners le s = tt
   others_wait z z' j id seen (Waiting t) mine apart owners le s = (
     le t s.0 (λ e. apart (one_owner z.owners z.left j id

@@ -15,7 +15,8 @@ use Rattle.turn_lock.specs.declared.rule.Stage.TheVariants.{Free, Waiting, Open,
 use Rattle.turn_lock.specs.Steps.{AllBy, GoesOn, Adds}
 use Rattle.turn_lock.specs.Views.{is_spent, is_busy, tickets_of, ticket_of, drawn_by, view_numbers}
 use Rattle.turn_lock.specs.Views.{tickets, drawn, in_stage, called, gone, Gone}
-use Rattle.turn_lock.specs.Rule.{World, Stands, Home, Kept}
+use Rattle.turn_lock.specs.inside.Rule.{World, Home, Kept}
+use Rattle.turn_lock.specs.inside.Rule.{StandsAtStage}
 use Rattle.turn_lock.specs.Tells.{drew, looked, rested, fetched, left_turn}
 use Rattle.turn_lock.proofs.Lists.{inside, same_some, not_both}
 use Rattle.turn_lock.proofs.Seats.{AllBelow-append, AllBy-below, goes_nowhere, goes_further}
@@ -99,7 +100,7 @@ module _ {T X : Type 0} (steps : T → List X) (seat_of : X → ℕ) (first seco
       let live : is_spent me.0.stage ≡ false = ap is_spent waits in
       let l = r.each id me.0 at live in
       let z : W = before steps seat_of first second opening s r in
-      let mine = subst (Stands z id me.0.seen) waits l.stands in
+      let mine = subst (StandsAtStage z id me.0.seen) waits l.stands in
       let now : t ≡ r.left = sym found ∙ word1 steps seat_of first second opening s r in
       let owner : get_elem? r.owners r.left ≡ some id =
       subst (λ (k : ℕ). get_elem? r.owners k ≡ some id) now mine.1 in
@@ -196,7 +197,7 @@ module _ {T X : Type 0} (steps : T → List X) (seat_of : X → ℕ) (first seco
   pub holds_on : (s : St) (r : Rule s) (id : ℕ) (v : V) (st : Stage)
       (homes : List (Maybe (Option T))) → get_elem? s.views id ≡ some v → is_busy v.stage ≡ true
       → is_busy st ≡ true
-      → Stands (after steps seat_of first second opening homes
+      → StandsAtStage (after steps seat_of first second opening homes
       (set s.views id (in_stage v st)) r.log r.left r.owners) id v.seen st
       → Rule record {
         words = set s.words 1 (get_or s.words 1 0);
@@ -234,7 +235,7 @@ module _ {T X : Type 0} (steps : T → List X) (seat_of : X → ℕ) (first seco
       (rested (step slots 1 0 0 none) (v, (0, None) ∷ []))
   rests slots id t v open_at s r _ at small =
       let l = r.each id v at (ap is_spent open_at) in
-      let mine = subst (Stands (before steps seat_of first second opening s r) id v.seen)
+      let mine = subst (StandsAtStage (before steps seat_of first second opening s r) id v.seen)
       open_at l.stands in
       let ticket : ticket_of v.stage ≡ t = ap ticket_of open_at in (
         in_stage v (Turn (ticket_of v.stage)),
@@ -254,7 +255,7 @@ module _ {T X : Type 0} (steps : T → List X) (seat_of : X → ℕ) (first seco
       → Allows Rule slots id (v, []) 1 (λ n. n) (fetched (step slots 1 0 0 none) (v, []))
   fetches slots id t v turn_at s r _ at small =
       let l = r.each id v at (ap is_spent turn_at) in
-      let mine = subst (Stands (before steps seat_of first second opening s r) id v.seen)
+      let mine = subst (StandsAtStage (before steps seat_of first second opening s r) id v.seen)
       turn_at l.stands in
       let ticket : ticket_of v.stage ≡ t = ap ticket_of turn_at in (
         in_stage v (Open (ticket_of v.stage)),
@@ -280,7 +281,7 @@ module _ {T X : Type 0} (steps : T → List X) (seat_of : X → ℕ) (first seco
       let live : is_spent v.stage ≡ false = ap is_spent open_at in
       let l = r.each id v at live in
       let z : W = before steps seat_of first second opening s r in
-      let mine = subst (Stands z id v.seen) open_at l.stands in
+      let mine = subst (StandsAtStage z id v.seen) open_at l.stands in
       let x : ℕ = get_or s.words 1 0 in
       let is : x ≡ r.left = word1 steps seat_of first second opening s r in
       let many = not_many steps seat_of first second opening s r in

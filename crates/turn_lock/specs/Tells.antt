@@ -36,15 +36,15 @@ module _ {T X : Type 0} (steps : T → List X) (seat_of : X → ℕ) (first seco
 
 module _ {T X : Type 0} (steps : T → List X) where
   -- the list of the value that a pass holds
-  abbrev pub steps_in : List (ℕ × Option T) → List X
-  steps_in [] = []
-  steps_in ((k, None) ∷ c) = []
-  steps_in ((k, Some x) ∷ c) = steps x
+  abbrev pub steps_held : List (ℕ × Option T) → List X
+  steps_held [] = []
+  steps_held ((k, None) ∷ c) = []
+  steps_held ((k, Some x) ∷ c) = steps x
 
   -- the value went home, and the turn is over
   abbrev pub left_turn : Step (Option T) → Me (Option T) (View X) → ℕ → Me (Option T) (View X)
       → Type 0
-  left_turn st m r m' = (m'.1 ≡ rest m.1) × (m'.0 ≡ gone m.0 (steps_in m.1))
+  left_turn st m r m' = (m'.1 ≡ rest m.1) × (m'.0 ≡ gone m.0 (steps_held m.1))
 
 module _ {X : Type 0} (seat_of : X → ℕ) where
   -- of the two lists that it has seen, the shorter begins the longer

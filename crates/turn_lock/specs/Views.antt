@@ -130,8 +130,8 @@ module _ {X : Type 0} where
   new_split v = new_view v.first v.second (v.made + 1) v.seen
 
   -- the pass once another is joined into it, and once it has settled
-  abbrev pub both : View X → View X → View X
-  both v w = record v { made = max v.made w.made; late = view_numbers w; late_seen = w.seen }
+  abbrev pub both_views : View X → View X → View X
+  both_views v w = record v { made = max v.made w.made; late = view_numbers w; late_seen = w.seen }
 
   abbrev pub settle : View X → View X
   settle v = record v {

@@ -10,7 +10,7 @@ use Rattle.module_eval.specs.Counted.{visit_of}
 use Rattle.module_eval.specs.Costs.{operators, owed}
 use Rattle.module_eval.specs.Known.{AreKnown}
 use Rattle.module_eval.specs.Operators.{op_of}
-use Rattle.module_eval.specs.Reaches.{HasRoom, added, tally_of}
+use Rattle.module_eval.specs.Reaches.{PassesNoLimit, added, tally_of_visit}
 use Rattle.module_eval.specs.declared.reach.Tally.{Tally}
 use Rattle.omos_model.specs.Visit.{Visit}
 use Rattle.module_eval.specs.Pendings.{Comes, EndsAt, EndsIn, others_in}
@@ -198,7 +198,8 @@ blueprints::visit_first-returns-clause-back g t c =
     let reach =
     reach_of ns limit above p x v w walk.0 walk.1 c.of-reach.result c.requires.there.opens
     (omega (arith, deep, long)) (omega (arith, high, as_high, long))
-    (c.of-reach.ensures.added ∙ ap (λ (a : Tally). added a (tally_of w)) c.of-before.ensures) in
+    (c.of-reach.ensures.added
+    ∙ ap (λ (a : Tally). added a (tally_of_visit w)) c.of-before.ensures) in
     let named = named_by ns limit above p x v w walk.0 walk.1 in
     let more = c.in_ok-part.ensures.back.above ∙ c.in_ok-open.ensures.last in
     let keep = c.in_ok-keep.ensures in
@@ -255,7 +256,8 @@ blueprints::visit_again-returns-then-has_room-clause-walk g t c limit lim =
     let known =
     c.in_ok-enter_again.ensures.known ns above c.args.walk.now.memo.apart all c.requires.built
     c.requires.ready.known in
-    let room : HasRoom c.args.kept.reach c.len-depth.result v = c.if-has_room.ensures.0 refl in
+    let room : PassesNoLimit c.args.kept.reach c.len-depth.result v =
+    c.if-has_room.ensures.0 refl in
     let none_open : c.args.walk.now.memo.apart ≡ true = c.if-walk.true in
     let low = c.deeper-walk.ensures.second in
     let long = c.len-depth.ensures in
