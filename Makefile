@@ -90,6 +90,7 @@ trials:
 	@tests/contrib.sh $(OMOSD) $(OMOS)
 	@tests/readme.py $(OMOSD) $(OMOS)
 	@tests/docs.sh
+	@tests/words.py
 
 contrib: build
 	@tests/contrib.sh $(OMOSD) $(OMOS)

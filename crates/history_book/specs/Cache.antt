@@ -22,20 +22,20 @@ pub record CacheItem : Type 0 where
   pub footprint : List Stamped
   pub base : ℕ
 
-abbrev pub is_of : Name → CacheItem → Bool
-is_of path i = same_name path i.path
+abbrev pub is_cached_as : Name → CacheItem → Bool
+is_cached_as path i = same_name path i.path
 
 -- the path's item
 abbrev pub item_of : Name → List CacheItem → Option CacheItem
-item_of path items = find (is_of path) items
+item_of path items = find (is_cached_as path) items
 
 abbrev pub is_held : List CacheItem → Name → Bool
-is_held items path = list_any (is_of path) items
+is_held items path = list_any (is_cached_as path) items
 
 -- the items without the path's
 abbrev pub without : Name → List CacheItem → List CacheItem
 without path [] = []
-without path (i ∷ items) = if is_of path i then items else i ∷ without path items
+without path (i ∷ items) = if is_cached_as path i then items else i ∷ without path items
 
 -- the path's item goes to the front
 abbrev pub to_front : Name → List CacheItem → List CacheItem
@@ -52,11 +52,11 @@ is_current ns i = list_all (λ s. is_stamp (stamp_at ns s.path) s.stamp) i.footp
 
 -- a current item of the path is held
 abbrev pub is_hit : Space → List CacheItem → Name → Bool
-is_hit ns items path = list_any (λ i. is_of path i && is_current ns i) items
+is_hit ns items path = list_any (λ i. is_cached_as path i && is_current ns i) items
 
 -- an item of the path of the same or a newer version is held
 abbrev pub has_as_new : List CacheItem → Name → ℕ → Bool
-has_as_new items path version = list_any (λ i. is_of path i && nat_le version i.version) items
+has_as_new items path version = list_any (λ i. is_cached_as path i && nat_le version i.version) items
 
 -- ---- the cache, the most recently used first
 

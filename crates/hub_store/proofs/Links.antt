@@ -30,9 +30,10 @@ use Rattle.history_book.specs.Told.{ask_of}
 use Rattle.history_book.specs.Told.{note_of, is_answered, is_placed, IsOpen}
 use Rattle.history_book.specs.Room.{HasRoom}
 use Rattle.history_book.specs.Owed.{IsNumbered}
-use Rattle.history_book.specs.Cache.{CacheItem, cache_after, is_of, item_of, is_hit, is_current}
+use Rattle.history_book.specs.Cache.{CacheItem, cache_after, item_of, is_hit, is_current}
 use Rattle.history_book.specs.Cache.{without, base_in}
 use Rattle.history_book.specs.Cache.{stored_item}
+use Rattle.history_book.specs.Cache.{is_cached_as}
 use Rattle.history_book.specs.Due.{due, storing, storing_for}
 use Rattle.history_book.specs.Legal.{HasPlace, MayEnd}
 use Rattle.history_book.specs.declared.step.Note.{Note}
@@ -53,10 +54,12 @@ use Rattle.history_book.proofs.Rooms.{request_fits, other_fits, answered_fits, p
 use Rattle.history_book.proofs.Rooms.{room_to_answer}
 use Rattle.history_book.proofs.Endings.{note_now}
 use Rattle.history_book.proofs.Caches.{AreApart, caches_are_apart, front_item}
-use Rattle.hub_store.specs.Keeps.{IsStore, AreTold, IsKept, fact_of, facts}
+use Rattle.hub_store.specs.Keeps.{IsStore, AreTold, fact_of, facts}
+use Rattle.hub_store.specs.Keeps.{IsKeptItem}
 use Rattle.hub_store.specs.Parts.{StoreParts, Appended, TicketParts, IsTicket, asking_of}
-use Rattle.hub_store.specs.Links.{IsImageFor, ending, IsPlain, IsPlanFor, place_in, place_then}
+use Rattle.hub_store.specs.Links.{IsImageFor, ending, IsPlain, IsPlanFor, place_then}
 use Rattle.hub_store.specs.Links.{place_reply, placing, MayLink, PlaceGives}
+use Rattle.hub_store.specs.Links.{place_for_ticket}
 use Rattle.hub_store.specs.declared.reply.PlaceReply.{PlaceReply}
 use Rattle.hub_store.proofs.Facts.{any_fact, facts_without, touched, item_at_place, All-without}
 use Rattle.hub_store.proofs.Facts.{All-removed}
@@ -75,36 +78,36 @@ facts_apart P space book items t = subst AreApart (sym t.cache_is) (caches_are_a
 pub hit_told : (P : List Step) (space : Space) (book : List Placement) (items : List Item)
     (path : Name)
     → AreTold P space book items
-    → list_any (λ i. held.is_of path i && held.is_current space i) items
+    → list_any (λ i. held.is_at path i && held.is_fresh space i) items
     ≡ is_hit (namespace_after P) (cache_after P) path
 hit_told P space book items path t =
-    ap (λ ns. list_any (λ i. held.is_of path i && held.is_current ns i) items) t.space_is
-    ∙ sym (any_fact (λ i. is_of path i && is_current (namespace_after P) i) items)
+    ap (λ ns. list_any (λ i. held.is_at path i && held.is_fresh ns i) items) t.space_is
+    ∙ sym (any_fact (λ i. is_cached_as path i && is_current (namespace_after P) i) items)
     ∙ ap (λ is. is_hit (namespace_after P) is path) t.cache_is
 
 pub record IsFoundAt (space : Space) (items : List Item) (path : Name) (n : ℕ)
     (i : Item) : Type 0 where
   pub within : n < length items
   pub here : i ≡ get_or items n i
-  pub of_path : held.is_of path i ≡ true
-  pub current : held.is_current space i ≡ true
+  pub of_path : held.is_at path i ≡ true
+  pub current : held.is_fresh space i ≡ true
 
 pub found_at : (space : Space) (items : List Item) (path : Name) (n : ℕ) (i : Item)
     → n < length items
-    → i ≡ get_or items n i → (held.is_of path i && held.is_current space i) ≡ true
+    → i ≡ get_or items n i → (held.is_at path i && held.is_fresh space i) ≡ true
     → IsFoundAt space items path n i
 found_at space items path n i l e t =
-    let h = and_parts (held.is_of path i) (held.is_current space i) t in
+    let h = and_parts (held.is_at path i) (held.is_fresh space i) t in
     record { within = l; here = e; of_path = h.0; current = h.1 }
 
-kept_at : (P : List Step) (items : List Item) (n : ℕ) (i : Item) → All (IsKept P) items
+kept_at : (P : List Step) (items : List Item) (n : ℕ) (i : Item) → All (IsKeptItem P) items
     → n < length items
-    → i ≡ get_or items n i → IsKept P i
-kept_at P items n i all l e = subst (IsKept P) (sym e) (All-get_or (IsKept P) items n i l all)
+    → i ≡ get_or items n i → IsKeptItem P i
+kept_at P items n i all l e = subst (IsKeptItem P) (sym e) (All-get_or (IsKeptItem P) items n i l all)
 
 -- the item that was found is kept as one that is current now
-found_kept : (P : List Step) (i : Item) → IsKept P i → held.is_current (namespace_after P) i ≡ true
-    → IsKept P (held.as_found (version_after P) i)
+found_kept : (P : List Step) (i : Item) → IsKeptItem P i → held.is_fresh (namespace_after P) i ≡ true
+    → IsKeptItem P (held.as_found (version_after P) i)
 found_kept P i k e = record { read = k.read; asked = k.asked; current = e; found = omega arith }
 
 pub found_answers : (P : List Step) (space : Space) (book : List Placement) (items : List Item)
@@ -114,7 +117,7 @@ pub found_answers : (P : List Step) (space : Space) (book : List Placement) (ite
     → answer (namespace_after P) path i.image.base ≡ Ok bytes
 found_answers P space book items path n i bytes t f e =
     hit_answers P i path bytes (kept_at P items n i t.kept f.within f.here)
-    (ap (λ ns. held.is_current ns i) (sym t.space_is) ∙ f.current)
+    (ap (λ ns. held.is_fresh ns i) (sym t.space_is) ∙ f.current)
     (same_name-true path (held.path_of i) f.of_path) e
 
 pub after_hit : (limits : Limits) (P : List Step) (space : Space) (book : List Placement)
@@ -137,11 +140,11 @@ after_hit limits P space book items seat path n i st room f =
     let waiting : IsOpen (P ++ s ∷ []) ask =
     record { asked = asked; waits = answered_same P s refl m ∙ fresh_answer P m below } in
     let apart = facts_apart P space book items st.told in
-    let now = ap (λ ns. held.is_current ns i) (sym st.told.space_is) ∙ f.current in
+    let now = ap (λ ns. held.is_fresh ns i) (sym st.told.space_is) ∙ f.current in
     let hit : true ≡ is_hit (namespace_after P) (cache_after P) path =
-    sym (list_any_at (λ (j : Item). held.is_of path j && held.is_current space j) items n i f.within
-    (ap (λ (j : Item). held.is_of path j && held.is_current space j) (sym f.here)
-    ∙ ap (λ b. b && held.is_current space i) f.of_path ∙ f.current))
+    sym (list_any_at (λ (j : Item). held.is_at path j && held.is_fresh space j) items n i f.within
+    (ap (λ (j : Item). held.is_at path j && held.is_fresh space j) (sym f.here)
+    ∙ ap (λ b. b && held.is_fresh space i) f.of_path ∙ f.current))
     ∙ hit_told P space book items path st.told in
     let there : item_of path (cache_after P) ≡ Some (fact_of i) =
     ap (item_of path) (sym st.told.cache_is)
@@ -150,10 +153,10 @@ after_hit limits P space book items seat path n i st room f =
     ap (item_of path) (cache_push P s) ∙ front_item path (cache_after P) (fact_of i) there in
     let first = numbered_ask P seat path (version_after P) true st.told.numbered in
     let left : List Item = held.as_found (version_after P) i ∷ remove items n in
-    let kept : All (IsKept P) left =
-    All-cons (IsKept P) (held.as_found (version_after P) i) (remove items n)
+    let kept : All (IsKeptItem P) left =
+    All-cons (IsKeptItem P) (held.as_found (version_after P) i) (remove items n)
     (found_kept P i (kept_at P items n i st.told.kept f.within f.here) now)
-    (All-removed (IsKept P) items n st.told.kept) in
+    (All-removed (IsKeptItem P) items n st.told.kept) in
     let told : AreTold (P ++ s ∷ []) space book left =
     plain_push P space book items left s st.told refl refl
     (touched path items n i (version_after P) apart f.within f.here f.of_path)
@@ -238,10 +241,10 @@ after_placed limits P space book items t r base st ticket un p e =
     }
 
 -- what was said of the place stays true in the record that comes of it
-pub stands_then : (P : List Step) (t : TicketParts) (r : Ready) (at : Place) → place_in P t r ≡ at
-    → place_in (P ++ placing t r.layout.pages at) t r ≡ place_then (place_reply at)
-stands_then P t r (place.Held base) e = ap (λ Q. place_in Q t r) (append-nil P) ∙ e
-stands_then P t r place.NoRoom e = ap (λ Q. place_in Q t r) (append-nil P) ∙ e
+pub stands_then : (P : List Step) (t : TicketParts) (r : Ready) (at : Place) → place_for_ticket P t r ≡ at
+    → place_for_ticket (P ++ placing t r.layout.pages at) t r ≡ place_then (place_reply at)
+stands_then P t r (place.Held base) e = ap (λ Q. place_for_ticket Q t r) (append-nil P) ∙ e
+stands_then P t r place.NoRoom e = ap (λ Q. place_for_ticket Q t r) (append-nil P) ∙ e
 stands_then P t r (place.New base) e =
     let s : Step = Placed t.seat t.number t.path base r.layout.pages in
     ap (λ b. place_for b t.path r.layout.pages r.evaluated.lo r.evaluated.hi) (book_push P s)
@@ -262,13 +265,13 @@ ticket_then P t pages (place.New base) h =
 
 pub place_given : (old new : StoreParts) (t : TicketParts) (r : Ready) (at : Place)
     (reply : PlaceReply)
-    → place_in old.steps t r ≡ at → reply ≡ place_reply at
+    → place_for_ticket old.steps t r ≡ at → reply ≡ place_reply at
     → Appended old new (placing t r.layout.pages at)
     → IsTicket old.steps t → Stands at r.layout.pages → PlaceGives old t r reply new
 place_given old new t r at reply e is n ticket stands = record {
   reply_is = is ∙ ap place_reply (sym e);
   steps = n ∙ ap (λ a. record old { steps = old.steps ++ placing t r.layout.pages a }) (sym e);
-  stands = ap (λ (s : StoreParts). place_in s.steps t r) n ∙ stands_then old.steps t r at e
+  stands = ap (λ (s : StoreParts). place_for_ticket s.steps t r) n ∙ stands_then old.steps t r at e
       ∙ ap place_then (sym is);
   ticket = subst (λ (s : StoreParts). IsTicket s.steps t) (sym n)
       (ticket_then old.steps t r.layout.pages at ticket);
@@ -414,7 +417,7 @@ item_told P more t l plan ticket image =
 
 item_kept : (P more : List Step) (t : TicketParts) (l : LinkedImage) (plan : Plan) → IsTicket P t
     → IsImageFor P t l plan
-    → IsKept (P ++ more) (item_for t l)
+    → IsKeptItem (P ++ more) (item_for t l)
 item_kept P more t l plan ticket image =
     let read : footprint (namespace_in (P ++ more) t.version) l.path ≡ Some l.footprint =
     ap (footprint (namespace_in (P ++ more) t.version)) image.path
@@ -437,26 +440,26 @@ pub after_stored : (limits : Limits) (P : List Step) (space : Space) (book : Lis
     → IsStore limits
     ((P ++ Answered t.seat t.number (Image l.base) ∷ []) ++ Stored t.seat t.number t.path
     t.version ∷ [])
-    space book (item_for t l ∷ held.without l.path items)
+    space book (item_for t l ∷ held.without_path l.path items)
 after_stored limits P space book items t l plan st ticket image may due_is =
     let a : Step = Answered t.seat t.number (Image l.base) in
     let s : Step = Stored t.seat t.number t.path t.version in
     let Q : List Step = P ++ a ∷ [] in
     let told = answered_told P space book items t (Image l.base) st.told ticket in
-    let left : List Item = item_for t l ∷ held.without l.path items in
+    let left : List Item = item_for t l ∷ held.without_path l.path items in
     let number =
     below_same Q s t.number
     (below_same P a t.number (ticket_below P t st.told.numbered ticket)) in
     let cache : facts left ≡ stored_item Q (asking_of t) ∷ without t.path (facts items) =
-    ap (λ i. i ∷ facts (held.without l.path items)) (item_told P [] t l plan ticket image
+    ap (λ i. i ∷ facts (held.without_path l.path items)) (item_told P [] t l plan ticket image
     ∙ ap (λ R. stored_item R (asking_of t)) (append-nil Q))
     ∙ ap (λ is. stored_item Q (asking_of t) ∷ is) (facts_without l.path items
     ∙ ap (λ p. without p (facts items)) image.path) in
-    let kept : All (IsKept (Q ++ s ∷ [])) left =
-    All-cons (IsKept (Q ++ s ∷ [])) (item_for t l) (held.without l.path items)
-    (subst (λ R. IsKept R (item_for t l)) (sym (append_assoc P (a ∷ []) (s ∷ [])))
+    let kept : All (IsKeptItem (Q ++ s ∷ [])) left =
+    All-cons (IsKeptItem (Q ++ s ∷ [])) (item_for t l) (held.without_path l.path items)
+    (subst (λ R. IsKeptItem R (item_for t l)) (sym (append_assoc P (a ∷ []) (s ∷ [])))
     (item_kept P (a ∷ s ∷ []) t l plan ticket image))
-    (All-without (IsKept (Q ++ s ∷ [])) l.path items (all_kept Q (s ∷ []) items told.kept)) in
+    (All-without (IsKeptItem (Q ++ s ∷ [])) l.path items (all_kept Q (s ∷ []) items told.kept)) in
     let fits =
     answered_fits limits.steps P (asking_of t) t.seat (Image l.base) st.fits ticket.here in
     record {
@@ -505,32 +508,32 @@ pub after_evicting : (limits : Limits) (P : List Step) (space : Space) (book : L
     → IsStore limits
     (((P ++ Answered t.seat t.number (Image l.base) ∷ []) ++ Evicted t.seat t.number last ∷ [])
     ++ Stored t.seat t.number t.path t.version ∷ [])
-    space book (item_for t l ∷ held.without l.path (held.without last items))
+    space book (item_for t l ∷ held.without_path l.path (held.without_path last items))
 after_evicting limits P space book items t l plan last st ticket image may due_is =
     let a : Step = Answered t.seat t.number (Image l.base) in
     let e : Step = Evicted t.seat t.number last in
     let s : Step = Stored t.seat t.number t.path t.version in
     let Q : List Step = P ++ a ∷ [] in
     let R : List Step = Q ++ e ∷ [] in
-    let rest : List Item = held.without last items in
+    let rest : List Item = held.without_path last items in
     let told = answered_told P space book items t (Image l.base) st.told ticket in
     let below = below_same P a t.number (ticket_below P t st.told.numbered ticket) in
     let after : AreTold R space book rest =
     plain_push Q space book items rest e told refl refl (facts_without last items)
-    (All-without (IsKept R) last items (all_kept Q (e ∷ []) items told.kept))
+    (All-without (IsKeptItem R) last items (all_kept Q (e ∷ []) items told.kept))
     (numbered_other Q e told.numbered (below_same Q e t.number below) refl refl) in
-    let left : List Item = item_for t l ∷ held.without l.path rest in
+    let left : List Item = item_for t l ∷ held.without_path l.path rest in
     let number = below_same R s t.number (below_same Q e t.number below) in
     let cache : facts left ≡ stored_item R (asking_of t) ∷ without t.path (facts rest) =
-    ap (λ i. i ∷ facts (held.without l.path rest)) (item_told P (e ∷ []) t l plan ticket image)
+    ap (λ i. i ∷ facts (held.without_path l.path rest)) (item_told P (e ∷ []) t l plan ticket image)
     ∙ ap (λ is. stored_item R (asking_of t) ∷ is) (facts_without l.path rest
     ∙ ap (λ p. without p (facts rest)) image.path) in
-    let kept : All (IsKept (R ++ s ∷ [])) left =
-    All-cons (IsKept (R ++ s ∷ [])) (item_for t l) (held.without l.path rest)
-    (subst (λ X. IsKept X (item_for t l))
+    let kept : All (IsKeptItem (R ++ s ∷ [])) left =
+    All-cons (IsKeptItem (R ++ s ∷ [])) (item_for t l) (held.without_path l.path rest)
+    (subst (λ X. IsKeptItem X (item_for t l))
     (sym (append_assoc Q (e ∷ []) (s ∷ []) ∙ append_assoc P (a ∷ []) (e ∷ s ∷ [])))
     (item_kept P (a ∷ e ∷ s ∷ []) t l plan ticket image))
-    (All-without (IsKept (R ++ s ∷ [])) l.path rest (all_kept R (s ∷ []) rest after.kept)) in
+    (All-without (IsKeptItem (R ++ s ∷ [])) l.path rest (all_kept R (s ∷ []) rest after.kept)) in
     let fits =
     answered_fits limits.steps P (asking_of t) t.seat (Image l.base) st.fits ticket.here in
     record {

@@ -29,7 +29,8 @@ use Rattle.history_book.proofs.Legality.{due_push, due_push_two, legal_push, leg
 use Rattle.history_book.proofs.Legality.{legal_nothing}
 use Rattle.history_book.proofs.Numbers.{numbered_other, numbered_ask, numbered_nothing}
 use Rattle.history_book.proofs.Rooms.{request_fits, other_fits, room_fits}
-use Rattle.hub_store.specs.Keeps.{IsStore, AreTold, IsKept, facts}
+use Rattle.hub_store.specs.Keeps.{IsStore, AreTold, facts}
+use Rattle.hub_store.specs.Keeps.{IsKeptItem}
 use Rattle.hub_store.proofs.Facts.{any_fact, facts_without, All-without}
 use Rattle.hub_store.proofs.Kept.{all_kept}
 
@@ -39,7 +40,7 @@ pub told_push : (P : List Step) (space next : Space) (book more : List Placement
     (items left : List Item) (s : Step)
     → AreTold P space book items → next ≡ namespace_after (P ++ s ∷ [])
     → more ≡ book ++ book_of (s ∷ [])
-    → facts left ≡ cache_with P (facts items) s → All (IsKept (P ++ s ∷ [])) left
+    → facts left ≡ cache_with P (facts items) s → All (IsKeptItem (P ++ s ∷ [])) left
     → IsNumbered (P ++ s ∷ [])
     → AreTold (P ++ s ∷ []) next more left
 told_push P space next book more items left s t ns ps is kept numbered = record {
@@ -54,7 +55,7 @@ told_push P space next book more items left s t ns ps is kept numbered = record 
 pub plain_push : (P : List Step) (space : Space) (book : List Placement) (items left : List Item)
     (s : Step)
     → AreTold P space book items → puts_of (s ∷ []) ≡ [] → book_of (s ∷ []) ≡ []
-    → facts left ≡ cache_with P (facts items) s → All (IsKept (P ++ s ∷ [])) left
+    → facts left ≡ cache_with P (facts items) s → All (IsKeptItem (P ++ s ∷ [])) left
     → IsNumbered (P ++ s ∷ [])
     → AreTold (P ++ s ∷ []) space book left
 plain_push P space book items left s t no_put no_place is kept numbered =
@@ -114,7 +115,7 @@ after_looked limits P space book items seat look st room =
 -- whether the path's image is held, as the record says it
 pub held_told : (P : List Step) (space : Space) (book : List Placement) (items : List Item)
     (path : Name)
-    → AreTold P space book items → held.is_held items path ≡ is_held (cache_after P) path
+    → AreTold P space book items → held.has_item items path ≡ is_held (cache_after P) path
 held_told P space book items path t =
     sym (any_fact (λ i. same_name path i.path) items) ∙ ap (λ is. is_held is path) t.cache_is
 
@@ -177,7 +178,7 @@ pub after_held : (limits : Limits) (P : List Step) (space : Space) (book : List 
     → IsStore limits
     ((P ++ Flushed seat (requests P) path true ∷ []) ++ Evicted seat (requests P) path ∷ [])
     space book
-    (held.without path items)
+    (held.without_path path items)
 after_held limits P space book items seat path st room is =
     let n : ℕ = requests P in
     let s : Step = Flushed seat n path true in
@@ -190,9 +191,9 @@ after_held limits P space book items seat path st room is =
       legal = legal_push_two limits.cache limits.steps P s t st.legal
           (request limits.steps P room, is)
           (due_push limits.cache P s) (due_push_two limits.cache P s t);
-      told = plain_push (P ++ s ∷ []) space book items (held.without path items) t told refl refl
+      told = plain_push (P ++ s ∷ []) space book items (held.without_path path items) t told refl refl
           (facts_without path items)
-          (All-without (IsKept ((P ++ s ∷ []) ++ t ∷ [])) path items
+          (All-without (IsKeptItem ((P ++ s ∷ []) ++ t ∷ [])) path items
           (all_kept (P ++ s ∷ []) (t ∷ []) items told.kept))
           (numbered_other (P ++ s ∷ []) t first (below_same (P ++ s ∷ []) t n (below_next P s refl))
           refl refl);
@@ -209,7 +210,7 @@ nothing limits = record {
     space_is = refl;
     book_is = refl;
     cache_is = refl;
-    kept = All-nil (IsKept []);
+    kept = All-nil (IsKeptItem []);
     numbered = numbered_nothing;
   };
   fits = omega arith;

@@ -5,10 +5,12 @@ use Rattle.omos_base.specs.Limits.{Counts as Limits}
 use Rattle.omos_model.specs.Footprint.{footprint}
 use Rattle.omos_model.specs.Namespace.{Space}
 use Rattle.omos_model.specs.declared.placement.Placement.{Placement}
-use Rattle.image_cache.specs.Items.{path_of, is_current}
+use Rattle.image_cache.specs.Items.{path_of}
+use Rattle.image_cache.specs.Items.{is_fresh}
 use Rattle.image_cache.specs.declared.item.Item.{Item}
 use Rattle.history_book.specs.Told.{version_after, namespace_in, namespace_after, book_of}
-use Rattle.history_book.specs.Owed.{IsNumbered, Fits}
+use Rattle.history_book.specs.Owed.{IsNumbered}
+use Rattle.history_book.specs.Owed.{StepsFit}
 use Rattle.history_book.specs.Cache.{CacheItem, cache_after}
 use Rattle.history_book.specs.Legal.{IsLegal}
 use Rattle.history_book.specs.declared.step.Step.{Step}
@@ -34,10 +36,10 @@ of_item test None = false
 
 -- its footprint is its path's at the version at which it was asked, and was current at the version
 -- at which it was last found so
-pub record IsKept (P : List Step) (i : Item) : Type 0 where
+pub record IsKeptItem (P : List Step) (i : Item) : Type 0 where
   pub read : footprint (namespace_in P i.version) (path_of i) ≡ Some i.image.footprint
   pub asked : i.version ≤ version_after P
-  pub current : is_current (namespace_in P i.current_at) i ≡ true
+  pub current : is_fresh (namespace_in P i.current_at) i ≡ true
   pub found : i.current_at ≤ version_after P
 
 -- the namespace, the book and the cache are what the steps say
@@ -46,7 +48,7 @@ pub record AreTold (P : List Step) (space : Space) (book : List Placement) (item
   pub space_is : space ≡ namespace_after P
   pub book_is : book ≡ book_of P
   pub cache_is : facts items ≡ cache_after P
-  pub kept : All (IsKept P) items
+  pub kept : All (IsKeptItem P) items
   pub numbered : IsNumbered P
 
 -- the record is legal, the rest is what it says, and what it owes has room
@@ -54,4 +56,4 @@ pub record IsStore (limits : Limits) (P : List Step) (space : Space) (book : Lis
     (items : List Item) : Type 0 where
   pub legal : IsLegal limits.cache limits.steps P
   pub told : AreTold P space book items
-  pub fits : Fits 0 limits.steps P
+  pub fits : StepsFit 0 limits.steps P

@@ -16,8 +16,9 @@ use Rattle.history_book.specs.declared.step.Note.{Note}
 use Rattle.history_book.specs.declared.step.Note.TheVariants as note
 use Rattle.history_book.specs.declared.step.Step.{Step}
 use Rattle.history_book.specs.declared.step.Step.TheVariants.{Missed, Asked, Placed, Answered}
-use Rattle.hub_store.specs.Parts.{StoreParts, Appended, HasMore, IsFull, TicketParts, IsTicket}
+use Rattle.hub_store.specs.Parts.{StoreParts, Appended, IsFull, TicketParts, IsTicket}
 use Rattle.hub_store.specs.Parts.{asking_of}
+use Rattle.hub_store.specs.Parts.{HasRoomLeft}
 use Rattle.hub_store.specs.declared.reply.AskReply.{AskReply}
 use Rattle.hub_store.specs.declared.reply.AskReply.TheVariants as asked
 use Rattle.hub_store.specs.declared.reply.Outcome.{Outcome}
@@ -42,18 +43,18 @@ next_ticket P seat path =
 -- a hit's bytes are the answer at the present version
 abbrev pub AskGives : StoreParts → ℕ → Name → AskReply → StoreParts → Type 0
 AskGives old seat path (asked.Hit v l) new =
-    HasMore old × (v ≡ version_after old.steps) × (l.path ≡ path)
+    HasRoomLeft old × (v ≡ version_after old.steps) × (l.path ≡ path)
     × (answer (namespace_after old.steps) path l.base ≡ Ok l.bytes)
     × Appended old new
     (Asked seat (requests old.steps) path v true
     ∷ Answered seat (requests old.steps) (note.Image l.base) ∷ [])
 AskGives old seat path (asked.Go t) new =
-    HasMore old × (t ≡ next_ticket old.steps seat path) × IsTicket new.steps t
+    HasRoomLeft old × (t ≡ next_ticket old.steps seat path) × IsTicket new.steps t
     × (is_placed new.steps t.number ≡ false)
     × Appended old new (Asked seat (requests old.steps) path (version_after old.steps) false ∷ [])
 AskGives old seat path asked.Full new = IsFull old new
 AskGives old seat path asked.NoMemory new =
-    HasMore old × Appended old new (Missed seat (requests old.steps) ∷ [])
+    HasRoomLeft old × Appended old new (Missed seat (requests old.steps) ∷ [])
 
 -- ---- placing
 
@@ -67,8 +68,8 @@ pub record IsPlanFor (t : TicketParts) (r : Ready) (plan : Plan) : Type 0 where
   pub hi : r.evaluated.hi ≡ plan.hi
 
 -- where the ticket's image may stand, in a record with these steps
-abbrev pub place_in : List Step → TicketParts → Ready → Place
-place_in P t r = place_for (book_of P) t.path r.layout.pages r.evaluated.lo r.evaluated.hi
+abbrev pub place_for_ticket : List Step → TicketParts → Ready → Place
+place_for_ticket P t r = place_for (book_of P) t.path r.layout.pages r.evaluated.lo r.evaluated.hi
 
 abbrev pub place_reply : Place → PlaceReply
 place_reply (place.Held base) = placed.At base
@@ -92,9 +93,9 @@ MayLink placed.NoRoom pages = Unit {0}
 
 pub record PlaceGives (old : StoreParts) (t : TicketParts) (r : Ready) (reply : PlaceReply)
     (new : StoreParts) : Type 0 where
-  pub reply_is : reply ≡ place_reply (place_in old.steps t r)
-  pub steps : Appended old new (placing t r.layout.pages (place_in old.steps t r))
-  pub stands : place_in new.steps t r ≡ place_then reply
+  pub reply_is : reply ≡ place_reply (place_for_ticket old.steps t r)
+  pub steps : Appended old new (placing t r.layout.pages (place_for_ticket old.steps t r))
+  pub stands : place_for_ticket new.steps t r ≡ place_then reply
   pub ticket : IsTicket new.steps t
   pub links : MayLink reply r.layout.pages
 
@@ -116,18 +117,18 @@ MayFinish P t outcome.NoMemory = Unit {0}
 MayFinish P t outcome.Replayed =
     (t.seat ≡ 0) × (plan : Plan) × (base : ℕ) × HasPlace P (asking_of t) plan (place.Held base)
 
-abbrev pub note_of : Outcome → Note
-note_of (outcome.Image l) = note.Image l.base
-note_of (outcome.Refused x) = note.Refused x
-note_of outcome.NoMemory = note.NoMemory
-note_of outcome.Replayed = note.Replayed
+abbrev pub note_of_outcome : Outcome → Note
+note_of_outcome (outcome.Image l) = note.Image l.base
+note_of_outcome (outcome.Refused x) = note.Refused x
+note_of_outcome outcome.NoMemory = note.NoMemory
+note_of_outcome outcome.Replayed = note.Replayed
 
 -- the answer, and what it makes due
 abbrev pub ending : ℕ → List Step → TicketParts → Note → List Step
 ending c P t x = Answered t.seat t.number x ∷ dues c (P ++ Answered t.seat t.number x ∷ [])
 
 abbrev pub FinishGives : StoreParts → TicketParts → Outcome → StoreParts → Type 0
-FinishGives old t o new = Appended old new (ending old.limits.cache old.steps t (note_of o))
+FinishGives old t o new = Appended old new (ending old.limits.cache old.steps t (note_of_outcome o))
 
 -- a note without an image
 abbrev pub IsPlain : Note → Type 0

@@ -26,12 +26,12 @@ store_of steps cache room = record { steps = steps; limits = limits_of cache roo
 abbrev pub Appended : StoreParts → StoreParts → List Step → Type 0
 Appended old new steps = new ≡ record old { steps = old.steps ++ steps }
 
-abbrev pub HasMore : StoreParts → Type 0
-HasMore s = HasRoom s.limits.steps s.steps
+abbrev pub HasRoomLeft : StoreParts → Type 0
+HasRoomLeft s = HasRoom s.limits.steps s.steps
 
 -- a call that finds no room changes nothing
 abbrev pub IsFull : StoreParts → StoreParts → Type 0
-IsFull old new = ¬ HasMore old × (new ≡ old)
+IsFull old new = ¬ HasRoomLeft old × (new ≡ old)
 
 -- a publish, and the version that it makes
 pub record ReadyParts : Type 0 where

@@ -13,7 +13,8 @@ use Rattle.history_book.specs.Legal.{max_kept}
 use Rattle.history_book.specs.declared.step.Look.TheVariants as look
 use Rattle.history_book.specs.declared.step.Step.{Step}
 use Rattle.history_book.specs.declared.step.Step.TheVariants.{Put, Missed, Looked, Evicted, Flushed}
-use Rattle.hub_store.specs.Parts.{StoreParts, Appended, HasMore, IsFull, ReadyParts}
+use Rattle.hub_store.specs.Parts.{StoreParts, Appended, IsFull, ReadyParts}
+use Rattle.hub_store.specs.Parts.{HasRoomLeft}
 use Rattle.hub_store.specs.declared.counts.Counts.{Counts}
 use Rattle.hub_store.specs.declared.counts.Totals.{Totals}
 use Rattle.hub_store.specs.declared.reply.FlushReply.{FlushReply}
@@ -49,14 +50,14 @@ IsTooMuch s size = max_kept < kept_bytes s.steps + size
 -- too many bytes come before a full record
 abbrev pub PutGives : StoreParts → ℕ → ReadyParts → PutReply → StoreParts → Type 0
 PutGives old seat ready (put.Published v) new =
-    HasMore old × ¬ IsTooMuch old ready.size × (v ≡ version_after old.steps + 1)
+    HasRoomLeft old × ¬ IsTooMuch old ready.size × (v ≡ version_after old.steps + 1)
     × Appended old new (Put seat (requests old.steps) ready.path ready.entry ready.size ∷ [])
 PutGives old seat ready put.KeptFull new = IsTooMuch old ready.size × (new ≡ old)
 PutGives old seat ready put.Full new = ¬ IsTooMuch old ready.size × IsFull old new
 
 abbrev pub MissedGives : StoreParts → ℕ → Noted → StoreParts → Type 0
 MissedGives old seat noted.Done new =
-    HasMore old × Appended old new (Missed seat (requests old.steps) ∷ [])
+    HasRoomLeft old × Appended old new (Missed seat (requests old.steps) ∷ [])
 MissedGives old seat noted.Full new = IsFull old new
 
 -- ---- flushes
@@ -68,7 +69,7 @@ flushing false seat number path = []
 
 abbrev pub FlushGives : StoreParts → ℕ → Name → FlushReply → StoreParts → Type 0
 FlushGives old seat path (flush.Flushed held) new =
-    HasMore old × (held ≡ is_held (cache_after old.steps) path)
+    HasRoomLeft old × (held ≡ is_held (cache_after old.steps) path)
     × Appended old new
     (Flushed seat (requests old.steps) path held ∷ flushing held seat (requests old.steps) path)
 FlushGives old seat path flush.Full new = IsFull old new
@@ -76,16 +77,16 @@ FlushGives old seat path flush.Full new = IsFull old new
 -- ---- looks
 
 -- the placements of a path, in order of placing
-abbrev pub places_of : List Step → Name → List Placement
-places_of P path = filter (is_of path) (book_of P)
+abbrev pub placements_of : List Step → Name → List Placement
+placements_of P path = filter (is_of path) (book_of P)
 
 abbrev pub PlacesGives : StoreParts → ℕ → Name → PlacesReply → StoreParts → Type 0
 PlacesGives old seat path (places.Places ps) new =
-    HasMore old × (ps ≡ places_of old.steps path)
+    HasRoomLeft old × (ps ≡ placements_of old.steps path)
     × Appended old new (Looked seat (requests old.steps) (look.Places path) ∷ [])
 PlacesGives old seat path places.Full new = IsFull old new
 PlacesGives old seat path places.NoMemory new =
-    HasMore old × Appended old new (Missed seat (requests old.steps) ∷ [])
+    HasRoomLeft old × Appended old new (Missed seat (requests old.steps) ∷ [])
 
 abbrev pub counts_of : List Step → Counts
 counts_of P =
@@ -106,6 +107,6 @@ totals_of P = record { requests = requests P; counts = counts_of P }
 
 abbrev pub StatsGives : StoreParts → ℕ → StatsReply → StoreParts → Type 0
 StatsGives old seat (stats.Counts counts) new =
-    HasMore old × (counts ≡ counts_of old.steps)
+    HasRoomLeft old × (counts ≡ counts_of old.steps)
     × Appended old new (Looked seat (requests old.steps) look.Stats ∷ [])
 StatsGives old seat stats.Full new = IsFull old new

@@ -18,29 +18,29 @@ pub record CacheParts : Type 0 where
 abbrev pub path_of : Item → Name
 path_of i = i.image.path
 
-abbrev pub is_of : Name → Item → Bool
-is_of path i = same_name path (path_of i)
+abbrev pub is_at : Name → Item → Bool
+is_at path i = same_name path (path_of i)
 
 -- the path's item
-abbrev pub item_of : Name → List Item → Option Item
-item_of path items = find (is_of path) items
+abbrev pub item_at : Name → List Item → Option Item
+item_at path items = find (is_at path) items
 
-abbrev pub is_held : List Item → Name → Bool
-is_held items path = list_any (is_of path) items
+abbrev pub has_item : List Item → Name → Bool
+has_item items path = list_any (is_at path) items
 
 -- the items without the path's
-abbrev pub without : Name → List Item → List Item
-without path [] = []
-without path (i ∷ items) = if is_of path i then items else i ∷ without path items
+abbrev pub without_path : Name → List Item → List Item
+without_path path [] = []
+without_path path (i ∷ items) = if is_at path i then items else i ∷ without_path path items
 
 -- ---- an item is current where each path that was read has the same stamp
 
-abbrev pub is_stamp : Option ℕ → ℕ → Bool
-is_stamp (Some m) n = m == n
-is_stamp None n = false
+abbrev pub has_stamp : Option ℕ → ℕ → Bool
+has_stamp (Some m) n = m == n
+has_stamp None n = false
 
-abbrev pub is_current : Space → Item → Bool
-is_current ns i = list_all (λ s. is_stamp (stamp_at ns s.path) s.stamp) i.image.footprint
+abbrev pub is_fresh : Space → Item → Bool
+is_fresh ns i = list_all (λ s. has_stamp (stamp_at ns s.path) s.stamp) i.image.footprint
 
 -- each path that was read has the same stamp, unless its key is one of what was published since the
 -- item was last found current; `published` has a key of each publish, in order
@@ -48,15 +48,15 @@ abbrev pub IsKnown : Space → List ℕ → Item → Type 0
 IsKnown ns published i =
     All
     (λ s. is_listed (drop i.current_at published) s.path ≡ false
-    → is_stamp (stamp_at ns s.path) s.stamp ≡ true)
+    → has_stamp (stamp_at ns s.path) s.stamp ≡ true)
     i.image.footprint
 
 -- a current item of the path stands at the position; or there is none
 abbrev pub HasFound : List Item → Name → Space → Option ℕ → Type 0
 HasFound items path ns (Some n) =
     (n < length items)
-    × ((i : Item) → i ≡ slice_index_or items n i → (is_of path i && is_current ns i) ≡ true)
-HasFound items path ns None = list_any (λ i. is_of path i && is_current ns i) items ≡ false
+    × ((i : Item) → i ≡ slice_index_or items n i → (is_at path i && is_fresh ns i) ≡ true)
+HasFound items path ns None = list_any (λ i. is_at path i && is_fresh ns i) items ≡ false
 
 abbrev pub as_found : ℕ → Item → Item
 as_found version i = record i { current_at = version }
@@ -68,10 +68,10 @@ last_path items = option_map path_of (last_or None items)
 
 abbrev pub leaving : CacheParts → Name → Option Name
 leaving c path =
-    if not (is_held c.items path) && nat_le c.capacity (length c.items)
+    if not (has_item c.items path) && nat_le c.capacity (length c.items)
     then last_path c.items
     else None
 
 abbrev pub without_leaving : Option Name → List Item → List Item
-without_leaving (Some path) items = without path items
+without_leaving (Some path) items = without_path path items
 without_leaving None items = items

@@ -4,9 +4,10 @@ ghost use Rattle.std.specs.Prelude.{◌≡◌, ◌∷◌, ◌&&◌, ◌<◌, ◌
 ghost use Rattle.std.specs.Prelude.{MatchOption};
 ghost use Rattle.std.specs.List.{All, position_or_len, remove};
 ghost use Rattle.std.specs.Option.{option_map};
-ghost use Rattle.image_cache.specs.Items.{path_of, is_of, is_current, IsKnown, item_of, is_held};
-ghost use Rattle.image_cache.specs.Items.{without, leaving, without_leaving, last_path, as_found};
+ghost use Rattle.image_cache.specs.Items.{path_of, IsKnown};
+ghost use Rattle.image_cache.specs.Items.{leaving, without_leaving, last_path, as_found};
 ghost use Rattle.image_cache.specs.Items.{HasFound};
+ghost use Rattle.image_cache.specs.Items.{has_item, is_at, is_fresh, item_at, without_path};
 
 use crate::cells::Cells;
 use crate::current::{is_found, is_of};
@@ -39,7 +40,7 @@ impl Model for Cache {
 
 /// The position of the path's item, or the number of items.
 fn place_of(items: &Cells, path: &PathName) -> usize
-    ensures value { result ≡ position_or_len (is_of path.now) items.now }
+    ensures value { result ≡ position_or_len (is_at path.now) items.now }
     ensures within { result ≤ length items.now }
 {
     let mut at = 0;
@@ -53,7 +54,7 @@ fn place_of(items: &Cells, path: &PathName) -> usize
 fn place_found(items: &Cells, path: &PathName, snap: &Snap, published: &[u32]) -> usize
     requires { All (IsKnown snap.now.entries published.now) items.now }
     ensures value { result
-        ≡ position_or_len (λ i. is_of path.now i && is_current snap.now.entries i) items.now }
+        ≡ position_or_len (λ i. is_at path.now i && is_fresh snap.now.entries i) items.now }
     ensures within { result ≤ length items.now }
 {
     let mut at = 0;
@@ -65,8 +66,8 @@ fn place_found(items: &Cells, path: &PathName, snap: &Snap, published: &[u32]) -
 
 /// Takes the path's item out, and whether there was one.
 fn take_out(items: &mut Cells, path: &PathName) -> bool
-    ensures held { result ≡ is_held items.old path.now }
-    ensures rest { items.new ≡ without path.now items.old }
+    ensures held { result ≡ has_item items.old path.now }
+    ensures rest { items.new ≡ without_path path.now items.old }
 {
     let at = place_of(items, path);
     if at == items.len() {
@@ -153,7 +154,7 @@ impl Cache {
 
     /// The version of the path's item.
     pub fn newest(&self, path: &PathName) -> Option<u64>
-        ensures { result ≡ option_map (λ i. i.version) (item_of path.now self.now.items) }
+        ensures { result ≡ option_map (λ i. i.version) (item_at path.now self.now.items) }
     {
         let at = place_of(&self.items, path);
         if at < self.items.len() {
@@ -170,7 +171,7 @@ impl Cache {
         ensures some { 1 ≤ self.old.capacity }
         ensures leaving { result ≡ leaving self.old (path_of item) }
         ensures items { self.new.items
-            ≡ item ∷ without (path_of item) (without_leaving result self.old.items) }
+            ≡ item ∷ without_path (path_of item) (without_leaving result self.old.items) }
     {
         let path = item.image.get().path().copy();
         if take_out(&mut self.items, &path) {
@@ -190,8 +191,8 @@ impl Cache {
     /// Takes the path's item out, and whether it was held.
     pub fn flush(&mut self, path: &PathName) -> bool
         ensures capacity { self.new.capacity ≡ self.old.capacity }
-        ensures held { result ≡ is_held self.old.items path.now }
-        ensures items { self.new.items ≡ without path.now self.old.items }
+        ensures held { result ≡ has_item self.old.items path.now }
+        ensures items { self.new.items ≡ without_path path.now self.old.items }
     {
         take_out(&mut self.items, path)
     }

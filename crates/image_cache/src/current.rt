@@ -4,7 +4,8 @@ ghost use Rattle.std.specs.Prelude.{◌≡◌, ◌&&◌, ◌||◌, not, drop};
 ghost use Rattle.std.specs.List.{list_all};
 ghost use Rattle.link_model.specs.Laws.{stamp_at};
 ghost use Rattle.place_book.specs.Keys.{is_listed};
-ghost use Rattle.image_cache.specs.Items.{is_of, is_stamp, is_current, IsKnown};
+ghost use Rattle.image_cache.specs.Items.{IsKnown};
+ghost use Rattle.image_cache.specs.Items.{has_stamp, is_at, is_fresh};
 
 use crate::item::Item;
 use name_tree::Snap;
@@ -14,13 +15,13 @@ use place_book::key::is_listed;
 
 /// Whether the image is the path's.
 pub(crate) fn is_of(item: &Item, path: &PathName) -> bool
-    ensures { result ≡ is_of path.now item.now }
+    ensures { result ≡ is_at path.now item.now }
 {
     path == item.image.get().path()
 }
 
 fn has_stamp(read: &Stamped, snap: &Snap) -> bool
-    ensures { result ≡ is_stamp (stamp_at snap.now.entries read.now.path) read.now.stamp }
+    ensures { result ≡ has_stamp (stamp_at snap.now.entries read.now.path) read.now.stamp }
 {
     match snap.get(read.path.get()) {
         Some(entry) => entry.stamp == read.stamp,
@@ -30,7 +31,7 @@ fn has_stamp(read: &Stamped, snap: &Snap) -> bool
 
 /// Whether each path that was read has the same stamp there.
 fn all_stand(item: &Item, snap: &Snap) -> bool
-    ensures { result ≡ is_current snap.now.entries item.now }
+    ensures { result ≡ is_fresh snap.now.entries item.now }
 {
     item.image
         .get()
@@ -42,7 +43,7 @@ fn all_stand(item: &Item, snap: &Snap) -> bool
 /// Whether the path that was read isn't among these keys, or has the same stamp there.
 fn stays(read: &Stamped, since: &[u32], snap: &Snap) -> bool
     ensures { result ≡ (not (is_listed since.now read.now.path)
-        || is_stamp (stamp_at snap.now.entries read.now.path) read.now.stamp) }
+        || has_stamp (stamp_at snap.now.entries read.now.path) read.now.stamp) }
 {
     !is_listed(since, read.path.get()) || has_stamp(read, snap)
 }
@@ -50,7 +51,7 @@ fn stays(read: &Stamped, since: &[u32], snap: &Snap) -> bool
 /// The same for each path that was read.
 fn all_stay(item: &Item, since: &[u32], snap: &Snap) -> bool
     ensures { result ≡ list_all (λ s. not (is_listed since.now s.path)
-        || is_stamp (stamp_at snap.now.entries s.path) s.stamp) item.now.image.footprint }
+        || has_stamp (stamp_at snap.now.entries s.path) s.stamp) item.now.image.footprint }
 {
     item.image
         .get()
@@ -75,7 +76,7 @@ fn keys_since(published: &[u32], version: u64) -> &[u32]
 /// whose key is one of what was published.
 fn is_current(item: &Item, snap: &Snap, published: &[u32]) -> bool
     requires { IsKnown snap.now.entries published.now item.now }
-    ensures { result ≡ is_current snap.now.entries item.now }
+    ensures { result ≡ is_fresh snap.now.entries item.now }
 {
     let since = keys_since(published, item.current_at);
     if since.is_empty() {
@@ -90,7 +91,7 @@ fn is_current(item: &Item, snap: &Snap, published: &[u32]) -> bool
 /// Whether the image is the path's, and current.
 pub(crate) fn is_found(item: &Item, path: &PathName, snap: &Snap, published: &[u32]) -> bool
     requires { IsKnown snap.now.entries published.now item.now }
-    ensures { result ≡ (is_of path.now item.now && is_current snap.now.entries item.now) }
+    ensures { result ≡ (is_at path.now item.now && is_fresh snap.now.entries item.now) }
 {
     is_of(item, path) && is_current(item, snap, published)
 }

@@ -10,8 +10,8 @@ use Rattle.omos_model.specs.declared.entry.Entry.TheVariants.{Object, Blueprint}
 use Rattle.bp_tree.specs.Texts.{IsText}
 
 -- the object of a file
-abbrev pub IsObject : List ℕ → Entry → Type 0
-IsObject file entry = (f : FragmentParts) × (fragment_of file ≡ Ok f) × (entry ≡ Object f)
+abbrev pub IsObjectOf : List ℕ → Entry → Type 0
+IsObjectOf file entry = (f : FragmentParts) × (fragment_of file ≡ Ok f) × (entry ≡ Object f)
 
 -- the image that a text says
 abbrev pub IsBlueprint : List ℕ → Entry → Type 0

@@ -4,7 +4,8 @@ ghost use Rattle.std.specs.Prelude.{◌≡◌, Err};
 ghost use Rattle.omos_base.specs.Fault.{MatchFault};
 ghost use Rattle.omos_model.specs.FragmentOf.{fragment_of};
 ghost use Rattle.bp_tree.specs.TextFaults.{IsTextFault};
-ghost use Rattle.link_example.specs.Entries.{IsObject, IsBlueprint};
+ghost use Rattle.link_example.specs.Entries.{IsBlueprint};
+ghost use Rattle.link_example.specs.Entries.{IsObjectOf};
 
 use bp_tree::parse;
 use fragment_read::fragment;
@@ -14,7 +15,7 @@ use std::alloc::Global;
 
 /// The entry of an object's file.
 pub(crate) fn object(alloc: Global, file: &[u8]) -> Result<Shared<Entry>, Fault<ObjectFault>>
-    ensures { MatchFault result (IsObject file.now) (λ x. fragment_of file.now ≡ Err x) }
+    ensures { MatchFault result (IsObjectOf file.now) (λ x. fragment_of file.now ≡ Err x) }
 {
     match fragment(alloc, file) {
         Ok(fragment) => Ok(Shared::of(alloc, Entry::Object(fragment))?),

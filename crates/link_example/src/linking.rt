@@ -4,7 +4,8 @@ ghost use Rattle.std.specs.Prelude.{◌≡◌, Ok, Err, IfOk};
 ghost use Rattle.omos_base.specs.Fault.{MatchFault};
 ghost use Rattle.link_model.specs.Answer.{answer};
 ghost use Rattle.link_example.specs.Entries.{namespace_of};
-ghost use Rattle.link_example.specs.Links.{IsImageOf, HasFailure};
+ghost use Rattle.link_example.specs.Links.{HasFailure};
+ghost use Rattle.link_example.specs.Links.{IsAnswerImage};
 
 use crate::entries::{blueprint, object};
 use crate::failure::Failure;
@@ -55,7 +56,7 @@ pub fn link_two(
     second: Published,
     third: Published,
 ) -> Result<Linked, Fault<Failure>>
-    ensures { MatchFault result (IsImageOf first.entry second.entry third.entry)
+    ensures { MatchFault result (IsAnswerImage first.entry second.entry third.entry)
         (HasFailure first.entry second.entry third.entry) }
 {
     let one = match object(alloc, first.content) {

@@ -9,7 +9,7 @@ use Rattle.omos_model.specs.Namespace.{Space, look_up}
 use Rattle.omos_model.specs.declared.entry.Stamped.{Stamped}
 use Rattle.module_eval.specs.Costs.{IsReadAlone, StayRead, is_built}
 use Rattle.module_eval.specs.Found.{AreFound}
-use Rattle.module_eval.specs.Walks.{ComesBack, CountOn, IsReady}
+use Rattle.module_eval.specs.Walks.{ComesBack, CountOn, MayGoOn}
 use Rattle.module_eval.specs.declared.counts.Counts.{Counts}
 use Rattle.module_eval.specs.declared.memo.Memo.{Memo}
 use Rattle.module_eval.specs.declared.walk.Walk.{Walk}
@@ -19,7 +19,7 @@ pub count_on : (a b d : Counts) → CountOn a b → CountOn b d → CountOn a d
 count_on a b d h k = record { counted = k.counted; least = omega (arith, h.least, k.least) }
 
 -- it went nowhere
-pub back_at_once : (ns : Space) (counted : Bool) (a : Walk) → IsReady ns a
+pub back_at_once : (ns : Space) (counted : Bool) (a : Walk) → MayGoOn ns a
     → ComesBack ns counted a a
 back_at_once ns counted a h = record {
   above = refl;
@@ -42,8 +42,8 @@ back_on ns counted a b d h k = record {
   known = k.known;
 }
 
-pub ready_again : (ns : Space) (a b : Walk) → IsReady ns a → CountOn a.counts b.counts
-    → ComesBack ns true a b → IsReady ns b
+pub ready_again : (ns : Space) (a b : Walk) → MayGoOn ns a → CountOn a.counts b.counts
+    → ComesBack ns true a b → MayGoOn ns b
 ready_again ns a b h n k = record {
   counted = n.counted;
   room = subst (λ (ps : List Name). length ps ≤ 32) (sym k.above) h.room;
@@ -70,7 +70,7 @@ back_from ns counted a b d above memo read k =
 
 -- a path was read, at which nothing is opened
 pub back_object : {X E : Type 0} (ns : Space) (counted : Bool) (a : Walk) (new : Counts) (p : Name)
-    (e : Stamped) (f : FragmentParts) (r : Result X E) → IsReady ns a → look_up ns p ≡ Some e
+    (e : Stamped) (f : FragmentParts) (r : Result X E) → MayGoOn ns a → look_up ns p ≡ Some e
     → source ns p ≡ Some (Object f)
     → OnOk r ((ms : Space) → look_up ms p ≡ Some e → AreFound ms a.counts.read.entries
     → AreFound ms new.read.entries)

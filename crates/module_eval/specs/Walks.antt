@@ -28,17 +28,17 @@ abbrev pub space_of : Place → Space
 space_of place = place.snap.now.entries
 
 -- the blueprints that were read are open or kept, so that what is kept can be used again
-abbrev pub IsKnown : Space → Walk → Type 0
-IsKnown ns walk =
+abbrev pub AreOpenOrKept : Space → Walk → Type 0
+AreOpenOrKept ns walk =
     AreKnown ns walk.above walk.counts.read.entries walk.memo.apart walk.memo.kept.entries
 
 -- a walk may go on: nothing passes its limit, and what is kept is right
-pub record IsReady (ns : Space) (walk : Walk) : Type 0 where
+pub record MayGoOn (ns : Space) (walk : Walk) : Type 0 where
   pub counted : AreCounted walk.counts
   pub room : length walk.above ≤ max_blueprints
   pub low : walk.memo.deepest ≤ max_blueprints
   pub kept : AreKept ns walk.memo.kept.entries
-  pub known : IsKnown ns walk
+  pub known : AreOpenOrKept ns walk
 
 -- the blueprint is what stands at its path
 pub record IsThere (ns : Space) (blueprint : BlueprintAt) : Type 0 where
@@ -73,7 +73,7 @@ pub record ComesBack (ns : Space) (counted : Bool) (before after : Walk) : Type 
   pub kept : AreKept ns after.memo.kept.entries
   pub stays : StayBuilt before.memo.kept.entries after.memo.kept.entries
   pub deepens : Deepens before.memo.deepest after.memo.deepest
-  pub known : counted ≡ true → IsKnown ns after
+  pub known : counted ≡ true → AreOpenOrKept ns after
 
 -- the steps since are no more than the operators that were owed, less those that still are, and the
 -- operators of the blueprints that were read since

@@ -11,7 +11,7 @@ ghost use Rattle.module_eval.specs.Counted.{visit_of};
 ghost use Rattle.module_eval.specs.Kept.{IsKept};
 ghost use Rattle.module_eval.specs.Walked.{IsFree, IsLimit, Walked, tree_in};
 ghost use Rattle.module_eval.specs.Walks.{Charges, ComesBack, CountOn, GoesTo, IsCharged};
-ghost use Rattle.module_eval.specs.Walks.{IsReady, IsThere, space_of};
+ghost use Rattle.module_eval.specs.Walks.{MayGoOn, IsThere, space_of};
 
 use crate::exprs::visit_expr;
 use crate::memo::Kept;
@@ -34,7 +34,7 @@ pub fn visit_first<'a, L: Ledger>(
     walk: &mut Walk<'a>,
     steps: &mut Steps<L>,
 ) -> Result<Part, WalkFault>
-    requires ready { IsReady (space_of place.now) walk.old }
+    requires ready { MayGoOn (space_of place.now) walk.old }
     requires there { IsThere (space_of place.now) blueprint.now }
     requires free { IsFree walk.old.above blueprint.now.path.now }
     requires fresh { is_built walk.old.memo.kept.entries blueprint.now.path.now ≡ false }
@@ -91,7 +91,7 @@ pub fn visit_again<'a, L: Ledger>(
     walk: &mut Walk<'a>,
     steps: &mut Steps<L>,
 ) -> Result<Part, WalkFault>
-    requires ready { IsReady (space_of place.now) walk.old }
+    requires ready { MayGoOn (space_of place.now) walk.old }
     requires there { IsThere (space_of place.now) blueprint.now }
     requires free { IsFree walk.old.above blueprint.now.path.now }
     requires built { is_built walk.old.memo.kept.entries blueprint.now.path.now ≡ true }
@@ -136,7 +136,7 @@ fn visit_nested<'a, L: Ledger>(
     walk: &mut Walk<'a>,
     steps: &mut Steps<L>,
 ) -> Result<Part, WalkFault>
-    requires ready { IsReady (space_of place.now) walk.old }
+    requires ready { MayGoOn (space_of place.now) walk.old }
     ensures walk { (limit : ℕ) → IsLimit result walk.new.memo.deepest limit
         → Walked place.now.counting result (nested_on (tree_in (space_of place.now) limit
         walk.old.above place.now.at.now (tree_of image.now.body)) (visit_of walk.old.counts))

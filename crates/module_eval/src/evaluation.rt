@@ -10,7 +10,7 @@ ghost use Rattle.module_eval.specs.Counted.{visit_of};
 ghost use Rattle.module_eval.specs.Evaluations.{IsBuiltOn, IsEvaluatedOn, refusal_of};
 ghost use Rattle.module_eval.specs.Found.{AreFound};
 ghost use Rattle.module_eval.specs.Walked.{Expands};
-ghost use Rattle.module_eval.specs.Walks.{IsReady};
+ghost use Rattle.module_eval.specs.Walks.{MayGoOn};
 
 use crate::footprint::entries_of;
 use crate::node::WalkFault;
@@ -37,7 +37,7 @@ fn expand<'a, L: Ledger>(
     walk: &mut Walk<'a>,
     steps: &mut Steps<L>,
 ) -> Result<Part, WalkFault>
-    requires ready { IsReady snap.now.entries walk.old }
+    requires ready { MayGoOn snap.now.entries walk.old }
     requires first { visit_of walk.old.counts ≡ first_visit }
     requires closed { walk.old.above ≡ [] }
     ensures walk { Expands result (expansion snap.now.entries path.now) walk.new.counts }

@@ -12,7 +12,7 @@ ghost use Rattle.module_eval.specs.Counted.{visit_of};
 ghost use Rattle.module_eval.specs.Meant.{Means};
 ghost use Rattle.module_eval.specs.Pendings.{Comes, ComesTo, EndsAt, others_in};
 ghost use Rattle.module_eval.specs.Walked.{IsLimit, Walked, path_in, tree_in};
-ghost use Rattle.module_eval.specs.Walks.{Charges, ComesBack, CountOn, EndsFrom, IsReady, space_of};
+ghost use Rattle.module_eval.specs.Walks.{Charges, ComesBack, CountOn, EndsFrom, MayGoOn, space_of};
 
 use crate::counts::begin_node;
 use crate::node::WalkFault;
@@ -36,7 +36,7 @@ pub fn visit_expr<'a, L: Ledger>(
     walk: &mut Walk<'a>,
     steps: &mut Steps<L>,
 ) -> Result<Part, WalkFault>
-    requires ready { IsReady (space_of place.now) walk.old }
+    requires ready { MayGoOn (space_of place.now) walk.old }
     requires formed { IsTrue (is_formed expr.now) }
     ensures walk { (limit : ℕ) → IsLimit result walk.new.memo.deepest limit
         → Walked place.now.counting result (tree_in (space_of place.now) limit walk.old.above
@@ -63,7 +63,7 @@ fn descend<'a, L: Ledger>(
     walk: &mut Walk<'a>,
     steps: &mut Steps<L>,
 ) -> Result<Part, WalkFault>
-    requires ready { IsReady (space_of place.now) walk.old }
+    requires ready { MayGoOn (space_of place.now) walk.old }
     requires formed { IsTrue (is_formed expr.now) }
     ensures walk { (limit : ℕ) (end : Trail Term) → IsLimit result walk.new.memo.deepest limit
         → Comes (tree_in (space_of place.now) limit walk.old.above place.now.at.now
@@ -107,7 +107,7 @@ fn resume<'a, L: Ledger>(
     walk: &mut Walk<'a>,
     steps: &mut Steps<L>,
 ) -> Result<Part, WalkFault>
-    requires ready { IsReady (space_of place.now) walk.old }
+    requires ready { MayGoOn (space_of place.now) walk.old }
     ensures walk { (limit : ℕ) (t : Term) (end : Trail Term)
         → IsLimit result walk.new.memo.deepest limit → Means place.now.counting part t
         → EndsAt place.now.counting (space_of place.now) limit walk.old.above place.now.at.now
@@ -155,7 +155,7 @@ fn visit_others<'a, L: Ledger>(
     walk: &mut Walk<'a>,
     steps: &mut Steps<L>,
 ) -> Result<Part, WalkFault>
-    requires ready { IsReady (space_of place.now) walk.old }
+    requires ready { MayGoOn (space_of place.now) walk.old }
     ensures walk { (limit : ℕ) (t : Term) (end : Trail Term)
         → IsLimit result walk.new.memo.deepest limit → Means place.now.counting left t
         → Comes (others_in (path_in (space_of place.now) limit walk.old.above true place.now.at.now)

@@ -1,7 +1,7 @@
 //! The walk to a path, by what stands there.
 
 ghost use Rattle.std.specs.Prelude.{◌≡◌, ◌+◌, ◌≤◌, true, OnOk};
-ghost use Rattle.module_eval.specs.Walks.{ComesBack, CountOn, GoesTo, IsCharged, IsReady, IsThere};
+ghost use Rattle.module_eval.specs.Walks.{ComesBack, CountOn, GoesTo, IsCharged, MayGoOn, IsThere};
 ghost use Rattle.module_eval.specs.Walks.{space_of};
 
 use crate::blueprints::{visit_again, visit_first};
@@ -28,7 +28,7 @@ pub fn visit_path<'a, L: Ledger>(
     walk: &mut Walk<'a>,
     steps: &mut Steps<L>,
 ) -> Result<Part, WalkFault>
-    requires ready { IsReady (space_of place.now) walk.old }
+    requires ready { MayGoOn (space_of place.now) walk.old }
     ensures walk { GoesTo place.now counted path.now result walk.old walk.new }
     ensures counts { CountOn walk.old.counts walk.new.counts }
     ensures back { OnOk result (ComesBack (space_of place.now) counted walk.old walk.new) }
@@ -67,7 +67,7 @@ fn visit_blueprint<'a, L: Ledger>(
     walk: &mut Walk<'a>,
     steps: &mut Steps<L>,
 ) -> Result<Part, WalkFault>
-    requires ready { IsReady (space_of place.now) walk.old }
+    requires ready { MayGoOn (space_of place.now) walk.old }
     requires there { IsThere (space_of place.now) blueprint.now }
     ensures walk { GoesTo place.now counted blueprint.now.path.now result walk.old walk.new }
     ensures counts { CountOn walk.old.counts walk.new.counts }

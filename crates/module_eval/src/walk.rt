@@ -7,7 +7,7 @@ ghost use Rattle.std.specs.Prelude.{◌≡◌, []};
 ghost use Rattle.omos_model.specs.Expansion.{first_visit};
 ghost use Rattle.omos_model.specs.Namespace.{Space};
 ghost use Rattle.module_eval.specs.Counted.{visit_of};
-ghost use Rattle.module_eval.specs.Walks.{IsReady};
+ghost use Rattle.module_eval.specs.Walks.{MayGoOn};
 
 use crate::counts::Counts;
 use crate::memo::Memo;
@@ -51,7 +51,7 @@ pub struct Walk<'a> {
 impl<'a> Walk<'a> {
     /// Nothing is open, kept or counted yet.
     pub fn new(alloc: Global, seed: Seed) -> Walk<'a>
-        ensures ready { (ns : Space) → IsReady ns result }
+        ensures ready { (ns : Space) → MayGoOn ns result }
         ensures first { visit_of result.counts ≡ first_visit }
         ensures closed { result.above ≡ [] }
     {

@@ -3,16 +3,16 @@ use Rattle.std.specs.Prelude.{ℕ}
 use Rattle.omos_client.specs.declared.ending.Ending.{Ending}
 use Rattle.omos_client.specs.declared.ending.Ending.TheVariants as ends
 
-abbrev pub status_of : Ending → ℕ
-status_of ends.Done = 0
-status_of ends.Refused = 1
-status_of ends.Usage = 2
-status_of ends.SourceFailed = 3
-status_of ends.SinkFailed = 4
-status_of ends.NotReply = 5
-status_of ends.FileFailed = 6
-status_of ends.Ended = 7
-status_of ends.NoMemory = 8
-status_of ends.FileTooLong = 10
-status_of ends.OutputFailed = 11
-status_of ends.ServerNoMemory = 12
+abbrev pub client_status : Ending → ℕ
+client_status ends.Done = 0
+client_status ends.Refused = 1
+client_status ends.Usage = 2
+client_status ends.SourceFailed = 3
+client_status ends.SinkFailed = 4
+client_status ends.NotReply = 5
+client_status ends.FileFailed = 6
+client_status ends.Ended = 7
+client_status ends.NoMemory = 8
+client_status ends.FileTooLong = 10
+client_status ends.OutputFailed = 11
+client_status ends.ServerNoMemory = 12

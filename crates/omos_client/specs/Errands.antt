@@ -49,16 +49,16 @@ abbrev pub with_file : List ℕ → List ℕ → List ℕ → Option Asked
 with_file word path file = asked_if (is_sent path) (file_command word) path file
 
 -- `where PATH`, `flush PATH`
-abbrev pub with_path : List ℕ → List ℕ → Option Asked
-with_path word path = asked_if (is_sent path) (path_command word) path []
+abbrev pub asked_of_path : List ℕ → List ℕ → Option Asked
+asked_of_path word path = asked_if (is_sent path) (path_command word) path []
 
 -- `stats`
-abbrev pub alone : List ℕ → Option Asked
-alone word = asked_if true (alone_command word) [] []
+abbrev pub lone_word : List ℕ → Option Asked
+lone_word word = asked_if true (alone_command word) [] []
 
 -- the socket, and what is asked
 abbrev pub asked_by : List (List ℕ) → Option Asked
 asked_by (socket ∷ word ∷ path ∷ file ∷ []) = with_file word path file
-asked_by (socket ∷ word ∷ path ∷ []) = with_path word path
-asked_by (socket ∷ word ∷ []) = alone word
+asked_by (socket ∷ word ∷ path ∷ []) = asked_of_path word path
+asked_by (socket ∷ word ∷ []) = lone_word word
 asked_by _ = None

@@ -9,17 +9,17 @@ use Rattle.omos_wire.specs.Answer as reply
 use Rattle.omos_wire.specs.declared.span.Span.{Span}
 
 -- `0x` and lower-case digits, with no leading zero
-abbrev pub hex_text : ℕ → List ℕ
-hex_text n = codes "0x" ++ digits 16 false n
+abbrev pub hex_word : ℕ → List ℕ
+hex_word n = codes "0x" ++ digits 16 false n
 
 -- a placement: its base, and how many pages it has
 abbrev pub span_line : Span → List ℕ
-span_line s = hex_text s.base ++ codes " " ++ decimal s.pages ++ 10 ∷ []
+span_line s = hex_word s.base ++ codes " " ++ decimal s.pages ++ 10 ∷ []
 
 -- an image: its version, its base and how many bytes its file has
 abbrev pub image_line : ℕ → ℕ → ℕ → List ℕ
 image_line version base size =
-    codes "image version " ++ decimal version ++ codes " base " ++ hex_text base
+    codes "image version " ++ decimal version ++ codes " base " ++ hex_word base
     ++ codes " bytes " ++ decimal size ++ 10 ∷ []
 
 abbrev pub counts_line : Totals → List ℕ

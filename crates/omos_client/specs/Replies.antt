@@ -105,8 +105,8 @@ pub record IsAnswered (command : Command) (a : Answer) (bytes second : List ℕ)
   pub may : may_have command a ≡ true
 
 -- a reply that the request can't have
-abbrev pub IsOther : Command → List ℕ → Type 0
-IsOther command bytes = (a : Answer) × IsReplyFrame bytes a × (may_have command a ≡ false)
+abbrev pub IsOtherReply : Command → List ℕ → Type 0
+IsOtherReply command bytes = (a : Answer) × IsReplyFrame bytes a × (may_have command a ≡ false)
 
 -- behind a reply that the request may have the bytes are so
 abbrev pub IsThen : Command → List ℕ → (List ℕ → Type 0) → Type 0
@@ -120,7 +120,7 @@ TwoReplies (Ok parts) command now bytes =
 TwoReplies (Err Ended) command now bytes =
     IsAtEnd now × (IsShort bytes ⊎ IsThen command bytes IsShort)
 TwoReplies (Err NotReply) command now bytes =
-    BeginNoReply bytes ⊎ IsOther command bytes ⊎ IsThen command bytes IsNoBye
+    BeginNoReply bytes ⊎ IsOtherReply command bytes ⊎ IsThen command bytes IsNoBye
 TwoReplies (Err SourceFailed) command now bytes = ⊤
 TwoReplies (Err NoMemory) command now bytes = ⊤
 

@@ -5,15 +5,15 @@ use Rattle.omos_outside.specs.Sent.{WrotePart}
 use Rattle.omos_outside.specs.Stream.{Stream, Gives}
 use Rattle.omos_wire.specs.Read.{answer_in}
 use Rattle.omos_wire.specs.declared.owned_reply.ReplyParts.{ReplyParts}
-use Rattle.omos_client.specs.Ends.{status_of}
 use Rattle.omos_client.specs.Errands.{Asked}
 use Rattle.omos_client.specs.Replies.{TwoReplies}
 use Rattle.omos_client.specs.Sending.{Files, GoesWith, IsTooLong, sent_for}
-use Rattle.omos_client.specs.Telling.{Tells}
 use Rattle.omos_client.specs.declared.ending.Ending.{Ending}
 use Rattle.omos_client.specs.declared.ending.Ending.TheVariants as ends
 use Rattle.omos_client.specs.declared.receiving.Unheard.{Unheard}
 use Rattle.omos_client.specs.declared.receiving.Unheard.TheVariants as unheard
+use Rattle.omos_client.specs.Telling.{TellsReply}
+use Rattle.omos_client.specs.Ends.{client_status}
 
 -- what the outside tells: its files, the two directions of the link, and the output
 pub record Outside : Type 0 where
@@ -39,50 +39,50 @@ HasHeard result ask before now = (bytes : List ℕ)
 -- the reply and Bye came, and the reply was told
 abbrev pub HasTold : Ending → Asked → Outside → Outside → Type 0
 HasTold end ask before now = (parts : ReplyParts) × HasHeard (Ok parts) ask before now
-    × Tells end (answer_in parts) ask.file before.files now.files before.out now.out
+    × TellsReply end (answer_in parts) ask.file before.files now.files before.out now.out
 
 -- nothing was printed
 abbrev pub IsSilent : Outside → Outside → Type 0
 IsSilent before now = now.out ≡ before.out
 
 -- once the request was sent
-abbrev pub Follows : Ending → Asked → Outside → Outside → Type 0
-Follows ends.Done ask before now = HasTold ends.Done ask before now
-Follows ends.Refused ask before now = HasTold ends.Refused ask before now
-Follows ends.ServerNoMemory ask before now = HasTold ends.ServerNoMemory ask before now
-Follows ends.OutputFailed ask before now = HasTold ends.OutputFailed ask before now
-Follows ends.FileFailed ask before now = IsSilent before now
-Follows ends.SourceFailed ask before now = IsSilent before now
-Follows ends.Ended ask before now =
+abbrev pub FollowsSending : Ending → Asked → Outside → Outside → Type 0
+FollowsSending ends.Done ask before now = HasTold ends.Done ask before now
+FollowsSending ends.Refused ask before now = HasTold ends.Refused ask before now
+FollowsSending ends.ServerNoMemory ask before now = HasTold ends.ServerNoMemory ask before now
+FollowsSending ends.OutputFailed ask before now = HasTold ends.OutputFailed ask before now
+FollowsSending ends.FileFailed ask before now = IsSilent before now
+FollowsSending ends.SourceFailed ask before now = IsSilent before now
+FollowsSending ends.Ended ask before now =
     HasHeard (Err unheard.Ended) ask before now × IsSilent before now
-Follows ends.NotReply ask before now =
+FollowsSending ends.NotReply ask before now =
     HasHeard (Err unheard.NotReply) ask before now × IsSilent before now
-Follows ends.NoMemory ask before now = IsSilent before now
-Follows _ ask before now = ⊥
+FollowsSending ends.NoMemory ask before now = IsSilent before now
+FollowsSending _ ask before now = ⊥
 
 -- A run whose words ask for this.
-abbrev pub Runs : Ending → Asked → Outside → Outside → Type 0
-Runs ends.Done ask before now = HasSent ask before now × HasTold ends.Done ask before now
-Runs ends.Refused ask before now = HasSent ask before now × HasTold ends.Refused ask before now
-Runs ends.ServerNoMemory ask before now =
+abbrev pub RunsTo : Ending → Asked → Outside → Outside → Type 0
+RunsTo ends.Done ask before now = HasSent ask before now × HasTold ends.Done ask before now
+RunsTo ends.Refused ask before now = HasSent ask before now × HasTold ends.Refused ask before now
+RunsTo ends.ServerNoMemory ask before now =
     HasSent ask before now × HasTold ends.ServerNoMemory ask before now
-Runs ends.OutputFailed ask before now =
+RunsTo ends.OutputFailed ask before now =
     HasSent ask before now × HasTold ends.OutputFailed ask before now
-Runs ends.FileFailed ask before now = IsSilent before now
-Runs ends.FileTooLong ask before now =
+RunsTo ends.FileFailed ask before now = IsSilent before now
+RunsTo ends.FileTooLong ask before now =
     IsTooLong before.files ask.file × (now.to ≡ before.to) × IsSilent before now
-Runs ends.SinkFailed ask before now = ((content : List ℕ)
+RunsTo ends.SinkFailed ask before now = ((content : List ℕ)
     × GoesWith ask.command ask.file content before.files
     × WrotePart before.to now.to (sent_for ask content)) × IsSilent before now
-Runs ends.SourceFailed ask before now = HasSent ask before now × IsSilent before now
-Runs ends.Ended ask before now = HasSent ask before now
+RunsTo ends.SourceFailed ask before now = HasSent ask before now × IsSilent before now
+RunsTo ends.Ended ask before now = HasSent ask before now
     × HasHeard (Err unheard.Ended) ask before now × IsSilent before now
-Runs ends.NotReply ask before now = HasSent ask before now
+RunsTo ends.NotReply ask before now = HasSent ask before now
     × HasHeard (Err unheard.NotReply) ask before now × IsSilent before now
-Runs ends.NoMemory ask before now = IsSilent before now
-Runs ends.Usage ask before now = ⊥
+RunsTo ends.NoMemory ask before now = IsSilent before now
+RunsTo ends.Usage ask before now = ⊥
 
 -- the words ask for something, and the run came to an end that this status tells
-abbrev pub Ran : ℕ → Option Asked → Outside → Outside → Type 0
-Ran status asks before now = (ask : Asked) × (asks ≡ Some ask)
-    × (end : Ending) × (status ≡ status_of end) × Runs end ask before now
+abbrev pub RanAsked : ℕ → Option Asked → Outside → Outside → Type 0
+RanAsked status asks before now = (ask : Asked) × (asks ≡ Some ask)
+    × (end : Ending) × (status ≡ client_status end) × RunsTo end ask before now

@@ -3,7 +3,8 @@ use Rattle.std.specs.Prelude.{◌≡◌, ℕ, ◌<◌, ◌≤◌, List, [], ◌+
 use Rattle.std.specs.Prelude.{Result, Ok, Err}
 use Rattle.std.specs.Io.KnownBytes.{Appends}
 use Rattle.omos_outside.specs.Sent.{WrotePart}
-use Rattle.omos_files.specs.Files.{File, Name, Content, content_of}
+use Rattle.omos_files.specs.Files.{File, Content, content_of}
+use Rattle.omos_files.specs.Files.{FileName}
 use Rattle.omos_wire.specs.Message.{Message, frame}
 use Rattle.omos_wire.specs.Message as message
 use Rattle.omos_client.specs.Errands.{Asked}
@@ -36,24 +37,24 @@ sent_for ask content =
     frame (message_by ask.command ask.path content) ++ frame message.End
 
 -- the file holds this, where the files are told
-abbrev pub Holds : Files → Name → Content → Type 0
+abbrev pub Holds : Files → FileName → Content → Type 0
 Holds None name content = ⊤
 Holds (Some files) name content = content_of name files ≡ Some content
 
 -- what goes with a command is what its file holds, or nothing
-abbrev pub GoesWith : Command → Name → Content → Files → Type 0
+abbrev pub GoesWith : Command → FileName → Content → Files → Type 0
 GoesWith Put file content files = Holds files file content
 GoesWith Blueprint file content files = Holds files file content
 GoesWith _ file content files = content ≡ []
 
 -- the file holds more than may be sent, where the files are told
-abbrev pub IsTooLong : Files → Name → Type 0
+abbrev pub IsTooLong : Files → FileName → Type 0
 IsTooLong None name = ⊤
 IsTooLong (Some files) name =
     (content : Content) × (content_of name files ≡ Some content) × (most_sent < length content)
 
 -- The file holds these bytes; or it holds too many. Nothing is said where it couldn't be read.
-abbrev pub Brings : Result Content Unsent → Files → Name → Type 0
+abbrev pub Brings : Result Content Unsent → Files → FileName → Type 0
 Brings (Ok content) files name = Holds files name content
 Brings (Err FileTooLong) files name = IsTooLong files name
 Brings (Err FileFailed) files name = ⊤
@@ -61,7 +62,7 @@ Brings (Err SinkFailed) files name = ⊥
 Brings (Err NoMemory) files name = ⊤
 
 -- The same of what goes with a command.
-abbrev pub BringsWith : Command → Result Content Unsent → Files → Name → Type 0
+abbrev pub BringsWith : Command → Result Content Unsent → Files → FileName → Type 0
 BringsWith command (Ok content) files name = GoesWith command name content files
 BringsWith command (Err x) files name = Brings (Err x) files name
 

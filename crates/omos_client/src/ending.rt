@@ -1,7 +1,7 @@
 //! How a run of the client ends.
 
 ghost use Rattle.std.specs.Prelude.{◌≡◌};
-ghost use Rattle.omos_client.specs.Ends.{status_of};
+ghost use Rattle.omos_client.specs.Ends.{client_status};
 
 /// How a run of the client ends.
 #[derive(Clone, Copy, Debug, PartialEq, Eq)]
@@ -35,7 +35,7 @@ pub enum Ending {
 impl Ending {
     /// The status that tells it.
     pub(crate) fn status(self) -> u8
-        ensures { result ≡ status_of self }
+        ensures { result ≡ client_status self }
     {
         match self {
             Ending::Done => 0,

@@ -1,8 +1,9 @@
 //! What the words of the client's command line ask for.
 
 ghost use Rattle.std.specs.Prelude.{◌≡◌, ◌≤◌, IfSome, length, map, option_map, string_bytes};
-ghost use Rattle.omos_client.specs.Errands.{alone, alone_command, asked_by, asked_of, file_command};
-ghost use Rattle.omos_client.specs.Errands.{is_sent, path_command, with_file, with_path};
+ghost use Rattle.omos_client.specs.Errands.{alone_command, asked_by, asked_of, file_command};
+ghost use Rattle.omos_client.specs.Errands.{is_sent, path_command, with_file};
+ghost use Rattle.omos_client.specs.Errands.{asked_of_path, lone_word};
 
 /// What a request asks of the server.
 #[derive(Clone, Copy, Debug, PartialEq, Eq)]
@@ -95,7 +96,7 @@ fn with_file<'a>(word: &str, path: &'a str, file: &'a str) -> Option<Errand<'a>>
 
 /// `COMMAND PATH`.
 fn with_path<'a>(word: &str, path: &'a str) -> Option<Errand<'a>>
-    ensures asked { option_map asked_of result ≡ with_path word.now path.now }
+    ensures asked { option_map asked_of result ≡ asked_of_path word.now path.now }
     ensures short { IfSome result (λ e. length (asked_of e).path ≤ 2000) }
 {
     let command = path_command(word)?;
@@ -112,7 +113,7 @@ fn with_path<'a>(word: &str, path: &'a str) -> Option<Errand<'a>>
 
 /// `COMMAND`.
 fn alone<'a>(word: &str) -> Option<Errand<'a>>
-    ensures asked { option_map asked_of result ≡ alone word.now }
+    ensures asked { option_map asked_of result ≡ lone_word word.now }
     ensures short { IfSome result (λ e. length (asked_of e).path ≤ 2000) }
 {
     let command = alone_command(word)?;

@@ -4,7 +4,8 @@ ghost use Rattle.std.specs.Prelude.{◌≡◌, ◌++◌, IfOk, OnOk};
 ghost use Rattle.std.specs.List.{flat_map};
 ghost use Rattle.omos_wire.specs.Answer as answer;
 ghost use Rattle.omos_wire.specs.Read.{answer_in};
-ghost use Rattle.omos_client.specs.Lines.{counts_line, hex_text, image_line, line_for, span_line};
+ghost use Rattle.omos_client.specs.Lines.{counts_line, image_line, line_for, span_line};
+ghost use Rattle.omos_client.specs.Lines.{hex_word};
 
 use count_lines::push_count;
 use hub_store::Counts;
@@ -15,7 +16,7 @@ use std::alloc::Global;
 
 /// Appends a number as `0x` and lower-case digits.
 fn push_hex(alloc: Global, line: &mut Bytes, number: u64) -> Result<(), NoMemory>
-    ensures { OnOk result (line.new ≡ line.old ++ hex_text number) }
+    ensures { OnOk result (line.new ≡ line.old ++ hex_word number) }
 {
     let digits = format!(in alloc; "{number:x}")?;
     line.push_slice(b"0x")?;

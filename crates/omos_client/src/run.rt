@@ -3,9 +3,9 @@
 ghost use Rattle.std.specs.Prelude.{◌≡◌, ◌↔◌, ◌⊎◌, ◌≤◌, ◌∷◌, [], Contains, None, Some};
 ghost use Rattle.std.specs.Prelude.{is_some, length, map, string_bytes};
 ghost use Rattle.omos_outside.specs.Faults.{Rose};
-ghost use Rattle.omos_client.specs.Ends.{status_of};
 ghost use Rattle.omos_client.specs.Errands.{Asked, asked_by, asked_of};
-ghost use Rattle.omos_client.specs.Runs.{Follows, Ran, Runs, outside};
+ghost use Rattle.omos_client.specs.Runs.{outside};
+ghost use Rattle.omos_client.specs.Runs.{FollowsSending, RanAsked, RunsTo};
 
 use crate::ending::Ending;
 use crate::errand::{Errand, errand_of};
@@ -15,6 +15,7 @@ use crate::telling::tell;
 use omos_files::FileBox;
 use omos_outside::{Sink, Source};
 use std::alloc::Global;
+ghost use Rattle.omos_client.specs.Ends.{client_status};
 
 /// Reads the reply to a request that was sent, and tells it.
 fn finish<S: Source, F: FileBox, O: Sink>(
@@ -24,7 +25,7 @@ fn finish<S: Source, F: FileBox, O: Sink>(
     files: &mut F,
     out: &mut O,
 ) -> Ending
-    ensures follows { Follows result (asked_of errand.now)
+    ensures follows { FollowsSending result (asked_of errand.now)
         (outside (F.files files.old) (S.told from.old) None (O.held out.old))
         (outside (F.files files.new) (S.told from.new) None (O.held out.new)) }
     ensures later { (F.faults files.old ≤ F.faults files.new)
@@ -55,7 +56,7 @@ fn run<S: Source, K: Sink, F: FileBox, O: Sink>(
     out: &mut O,
 ) -> Ending
     requires { length (asked_of errand.now).path ≤ 2000 }
-    ensures runs { Runs result (asked_of errand.now)
+    ensures runs { RunsTo result (asked_of errand.now)
         (outside (F.files files.old) (S.told from.old) (K.held to.old) (O.held out.old))
         (outside (F.files files.new) (S.told from.new) (K.held to.new) (O.held out.new)) }
     ensures source_failed { result ≡ Ending.SourceFailed
@@ -107,7 +108,7 @@ pub fn client<S: Source, K: Sink, F: FileBox, O: Sink>(
         × (files.new ≡ files.old) × (out.new ≡ out.old) }
 
     // What was sent, what came, what was written, and what was printed, by how the run ends.
-    ensures ran { (result ≡ 2) ⊎ Ran result (asked_by (map string_bytes words.now))
+    ensures ran { (result ≡ 2) ⊎ RanAsked result (asked_by (map string_bytes words.now))
         (outside (F.files files.old) (S.told from.old) (K.held to.old) (O.held out.old))
         (outside (F.files files.new) (S.told from.new) (K.held to.new) (O.held out.new)) }
 

@@ -2,7 +2,8 @@
 
 ghost use Rattle.std.specs.Prelude.{◌≡◌, ◌≤◌, ◌++◌, Err, IfOk, length};
 ghost use Rattle.omos_outside.specs.Faults.{Rose};
-ghost use Rattle.omos_wire.specs.Message.{Fits, frame, message_of};
+ghost use Rattle.omos_wire.specs.Message.{frame, message_of};
+ghost use Rattle.omos_wire.specs.Message.{HasFrame};
 ghost use Rattle.omos_wire.specs.Message as message;
 ghost use Rattle.omos_client.specs.Errands.{asked_of};
 ghost use Rattle.omos_client.specs.Sending.{Brings, BringsWith, Sends, message_by};
@@ -89,7 +90,7 @@ fn request_of<'a>(command: Command, path: &'a [u8], content: &'a [u8]) -> Reques
 
 /// The frames of the request and of End.
 fn frames_of(alloc: Global, request: &Request<'_>) -> Result<Bytes, NoMemory>
-    requires { Fits (message_of request.now) }
+    requires { HasFrame (message_of request.now) }
     ensures { IfOk result (λ bytes. bytes ≡ frame (message_of request.now) ++ frame message.End) }
 {
     let mut bytes = request_frame(alloc, request)?;

@@ -3,7 +3,8 @@
 ghost use Rattle.std.specs.Prelude.{◌≡◌, ◌≤◌};
 ghost use Rattle.omos_outside.specs.Faults.{Rose};
 ghost use Rattle.omos_wire.specs.Read.{answer_in};
-ghost use Rattle.omos_client.specs.Telling.{EndsBy, Keeps, Tells};
+ghost use Rattle.omos_client.specs.Telling.{EndsBy, Keeps};
+ghost use Rattle.omos_client.specs.Telling.{TellsReply};
 
 use crate::ending::Ending;
 use crate::line::line_for;
@@ -44,7 +45,7 @@ pub(crate) fn tell<F: FileBox, O: Sink>(
     file: &str,
     out: &mut O,
 ) -> Ending
-    ensures told { Tells result (answer_in reply.now) file.now
+    ensures told { TellsReply result (answer_in reply.now) file.now
         (F.files files.old) (F.files files.new) (O.held out.old) (O.held out.new) }
     ensures later { (F.faults files.old ≤ F.faults files.new)
         × (O.faults out.old ≤ O.faults out.new) }

@@ -7,35 +7,35 @@ use Rattle.omos_files.specs.declared.files.FileRead.TheVariants as read
 use Rattle.omos_files.specs.declared.files.FileWrote.{FileWrote}
 use Rattle.omos_files.specs.declared.files.FileWrote.TheVariants as wrote
 
-abbrev pub Name : Type 0
-Name = List ℕ
+abbrev pub FileName : Type 0
+FileName = List ℕ
 
 abbrev pub Content : Type 0
 Content = List ℕ
 
 -- a file, by its name and what it holds
 abbrev pub File : Type 0
-File = Name × Content
+File = FileName × Content
 
 -- the two names have the same bytes
-abbrev pub is_same : Name → Name → Bool
+abbrev pub is_same : FileName → FileName → Bool
 is_same a b = pointwise (λ x y. x == y) a b
 
 -- what the first file of the name holds
-abbrev pub content_of : Name → List File → Option Content
+abbrev pub content_of : FileName → List File → Option Content
 content_of name [] = None
 content_of name (f ∷ files) = if is_same f.0 name then Some f.1 else content_of name files
 
 -- the bytes become what the file of the name holds, and no other file changes
-abbrev pub with_content : Name → Content → List File → List File
+abbrev pub with_content : FileName → Content → List File → List File
 with_content name bytes [] = (name, bytes) ∷ []
 with_content name bytes (f ∷ files) =
     if is_same f.0 name then (f.0, bytes) ∷ files else f ∷ with_content name bytes files
 
 -- how many files stand before the first of the name
-abbrev pub place_of : Name → List File → ℕ
-place_of name [] = 0
-place_of name (f ∷ files) = if is_same f.0 name then 0 else place_of name files + 1
+abbrev pub place_of_file : FileName → List File → ℕ
+place_of_file name [] = 0
+place_of_file name (f ∷ files) = if is_same f.0 name then 0 else place_of_file name files + 1
 
 -- what a read gave has at most so many bytes
 abbrev pub FitsLimit : FileRead → ℕ → Type 0
@@ -52,7 +52,7 @@ CopyOf content limit read.Failed = ⊥
 CopyOf content limit read.NoMemory = Unit {0}
 
 -- where the files are told, a read that doesn't fail is of the file of the name
-abbrev pub Reads : Option (List File) → Name → ℕ → FileRead → Type 0
+abbrev pub Reads : Option (List File) → FileName → ℕ → FileRead → Type 0
 Reads None name limit answer = ⊤
 Reads (Some files) name limit (read.Whole bytes) = content_of name files ≡ Some bytes
 Reads (Some files) name limit read.TooLong =
@@ -61,14 +61,14 @@ Reads (Some files) name limit read.Failed = ⊤
 Reads (Some files) name limit read.NoMemory = ⊤
 
 -- of the two lists of files, only the file of the name may differ
-abbrev pub OthersStay : Name → List File → List File → Type 0
+abbrev pub OthersStay : FileName → List File → List File → Type 0
 OthersStay name before now =
-    (other : Name) → is_same other name ≡ false → content_of other now ≡ content_of other before
+    (other : FileName) → is_same other name ≡ false → content_of other now ≡ content_of other before
 
 -- where the files are told, a write that is done changes the file of the name, and none another
-abbrev pub Writes : Option (List File) → Option (List File) → Name → Content → FileWrote → Type 0
-Writes None now name bytes answer = ⊤
-Writes (Some before) None name bytes answer = ⊥
-Writes (Some before) (Some now) name bytes wrote.Done = now ≡ with_content name bytes before
-Writes (Some before) (Some now) name bytes wrote.Failed = OthersStay name before now
-Writes (Some before) (Some now) name bytes wrote.NoMemory = OthersStay name before now
+abbrev pub WritesFile : Option (List File) → Option (List File) → FileName → Content → FileWrote → Type 0
+WritesFile None now name bytes answer = ⊤
+WritesFile (Some before) None name bytes answer = ⊥
+WritesFile (Some before) (Some now) name bytes wrote.Done = now ≡ with_content name bytes before
+WritesFile (Some before) (Some now) name bytes wrote.Failed = OthersStay name before now
+WritesFile (Some before) (Some now) name bytes wrote.NoMemory = OthersStay name before now

@@ -2,7 +2,8 @@
 use Rattle.std.specs.Prelude.{◌≡◌, ◌⊎◌, ℕ, ◌<◌, ◌≤◌, List, length, None, Some}
 use Rattle.omos_outside.specs.Faults.{counted}
 use Rattle.omos_outside.specs.Scripted.{FailsNext}
-use Rattle.omos_files.specs.Files.{File, Name, Content, content_of, with_content}
+use Rattle.omos_files.specs.Files.{File, Content, content_of, with_content}
+use Rattle.omos_files.specs.Files.{FileName}
 use Rattle.omos_files.specs.declared.files.FileRead.{FileRead}
 use Rattle.omos_files.specs.declared.files.FileRead.TheVariants as read
 use Rattle.omos_files.specs.declared.files.FileWrote.{FileWrote}
@@ -17,32 +18,32 @@ pub record ScriptedFiles : Type 0 where
 
 -- a read fails at the listed calls and at a name that isn't there; else it gives the content, or
 -- says that it is longer than the limit
-abbrev pub AnswersRead : ScriptedFiles → Name → ℕ → FileRead → Type 0
-AnswersRead s name limit (read.Whole bytes) = (FailsNext s.fails s.calls → ⊥)
+abbrev pub AnswersFileRead : ScriptedFiles → FileName → ℕ → FileRead → Type 0
+AnswersFileRead s name limit (read.Whole bytes) = (FailsNext s.fails s.calls → ⊥)
     × (content_of name s.files ≡ Some bytes) × (length bytes ≤ limit)
-AnswersRead s name limit read.TooLong = (FailsNext s.fails s.calls → ⊥)
+AnswersFileRead s name limit read.TooLong = (FailsNext s.fails s.calls → ⊥)
     × ((bytes : Content) × (content_of name s.files ≡ Some bytes) × (limit < length bytes))
-AnswersRead s name limit read.Failed =
+AnswersFileRead s name limit read.Failed =
     FailsNext s.fails s.calls ⊎ (content_of name s.files ≡ None)
-AnswersRead s name limit read.NoMemory = FailsNext s.fails s.calls → ⊥
+AnswersFileRead s name limit read.NoMemory = FailsNext s.fails s.calls → ⊥
 
 -- the box after a read that answered so
-abbrev pub after_read : ScriptedFiles → FileRead → ScriptedFiles
-after_read s (read.Whole bytes) = record s { calls = counted s.calls }
-after_read s read.TooLong = record s { calls = counted s.calls }
-after_read s read.Failed = record s { calls = counted s.calls; faults = counted s.faults }
-after_read s read.NoMemory = record s { calls = counted s.calls }
+abbrev pub after_file_read : ScriptedFiles → FileRead → ScriptedFiles
+after_file_read s (read.Whole bytes) = record s { calls = counted s.calls }
+after_file_read s read.TooLong = record s { calls = counted s.calls }
+after_file_read s read.Failed = record s { calls = counted s.calls; faults = counted s.faults }
+after_file_read s read.NoMemory = record s { calls = counted s.calls }
 
 -- a write fails at the listed calls alone
-abbrev pub AnswersWrite : ScriptedFiles → FileWrote → Type 0
-AnswersWrite s wrote.Done = FailsNext s.fails s.calls → ⊥
-AnswersWrite s wrote.Failed = FailsNext s.fails s.calls
-AnswersWrite s wrote.NoMemory = FailsNext s.fails s.calls → ⊥
+abbrev pub AnswersFileWrite : ScriptedFiles → FileWrote → Type 0
+AnswersFileWrite s wrote.Done = FailsNext s.fails s.calls → ⊥
+AnswersFileWrite s wrote.Failed = FailsNext s.fails s.calls
+AnswersFileWrite s wrote.NoMemory = FailsNext s.fails s.calls → ⊥
 
 -- the box after a write of the bytes that answered so
-abbrev pub after_write : ScriptedFiles → Name → Content → FileWrote → ScriptedFiles
-after_write s name bytes wrote.Done =
+abbrev pub after_file_write : ScriptedFiles → FileName → Content → FileWrote → ScriptedFiles
+after_file_write s name bytes wrote.Done =
     record s { files = with_content name bytes s.files; calls = counted s.calls }
-after_write s name bytes wrote.Failed =
+after_file_write s name bytes wrote.Failed =
     record s { calls = counted s.calls; faults = counted s.faults }
-after_write s name bytes wrote.NoMemory = record s { calls = counted s.calls }
+after_file_write s name bytes wrote.NoMemory = record s { calls = counted s.calls }

@@ -2,7 +2,8 @@
 
 ghost use Rattle.std.specs.Prelude.{◌≡◌, ◌^◌, ◌<◌, ◌≤◌, ℕ, List, Option};
 ghost use Rattle.omos_outside.specs.Faults.{Rose};
-ghost use Rattle.omos_files.specs.Files.{File, FitsLimit, Reads, Writes};
+ghost use Rattle.omos_files.specs.Files.{File, FitsLimit, Reads};
+ghost use Rattle.omos_files.specs.Files.{WritesFile};
 
 use omos_base::Bytes;
 
@@ -51,7 +52,7 @@ pub trait FileBox {
     /// Makes the bytes all that a file holds, and makes the file where there is none. No other file
     /// changes, whatever it answers.
     fn write_all(&mut self, name: &str, bytes: &[u8]) -> FileWrote
-        ensures writes { Writes (files self.old) (files self.new) name.now bytes.now result }
+        ensures writes { WritesFile (files self.old) (files self.new) name.now bytes.now result }
         ensures later { faults self.old ≤ faults self.new }
         ensures counts { faults self.new < 2 ^ 64 }
         ensures failed { result ≡ FileWrote.Failed → Rose (faults self.old) (faults self.new) };

@@ -2,15 +2,15 @@
 
 ghost use Rattle.std.specs.Prelude.{◌≡◌, ◌^◌, ◌<◌, ◌≤◌, Some};
 ghost use Rattle.omos_outside.specs.Faults.{Rose};
-ghost use Rattle.omos_files.specs.Files.{FitsLimit, Reads, Writes};
-ghost use Rattle.omos_files.specs.ScriptedFiles.{AnswersRead, AnswersWrite, after_read};
-ghost use Rattle.omos_files.specs.ScriptedFiles.{after_write};
+ghost use Rattle.omos_files.specs.Files.{FitsLimit, Reads};
+ghost use Rattle.omos_files.specs.Files.{WritesFile};
 
 use crate::calls::is_listed;
 use crate::files::{FileBox, FileRead, FileWrote};
 use crate::placing::{content_of, copy_of, put_copy};
 use omos_base::{Bytes, NoMemory, Row};
 use std::alloc::Global;
+ghost use Rattle.omos_files.specs.ScriptedFiles.{AnswersFileRead, AnswersFileWrite, after_file_read, after_file_write};
 use std::marker::Model;
 
 /// Files in memory. They fail at the listed calls, counted from 1, and a read also at a name that
@@ -69,8 +69,8 @@ impl FileBox for MemoryFiles {
         ensures failed { result ≡ FileRead.Failed → Rose self.old.faults self.new.faults }
 
         // The answer and the whole new value.
-        ensures answer { AnswersRead self.old name.now limit result }
-        ensures after { self.new ≡ after_read self.old result }
+        ensures answer { AnswersFileRead self.old name.now limit result }
+        ensures after { self.new ≡ after_file_read self.old result }
     {
         self.calls = self.calls.saturating_add(1);
         if is_listed(self.fails.as_slice(), self.calls) {
@@ -87,15 +87,15 @@ impl FileBox for MemoryFiles {
     }
 
     fn write_all(&mut self, name: &str, bytes: &[u8]) -> FileWrote
-        ensures writes { Writes (Some self.old.files) (Some self.new.files) name.now bytes.now
+        ensures writes { WritesFile (Some self.old.files) (Some self.new.files) name.now bytes.now
             result }
         ensures later { self.old.faults ≤ self.new.faults }
         ensures counts { self.new.faults < 2 ^ 64 }
         ensures failed { result ≡ FileWrote.Failed → Rose self.old.faults self.new.faults }
 
         // The answer and the whole new value.
-        ensures answer { AnswersWrite self.old result }
-        ensures after { self.new ≡ after_write self.old name.now bytes.now result }
+        ensures answer { AnswersFileWrite self.old result }
+        ensures after { self.new ≡ after_file_write self.old name.now bytes.now result }
     {
         self.calls = self.calls.saturating_add(1);
         if is_listed(self.fails.as_slice(), self.calls) {

@@ -1,7 +1,8 @@
 //! Finds and replaces a file in a list of files.
 
 ghost use Rattle.std.specs.Prelude.{◌≡◌, ◌<◌, ◌≤◌, length, IfSome, IfNone, OnOk, OnErr, Some, None};
-ghost use Rattle.omos_files.specs.Files.{content_of, with_content, place_of, CopyOf};
+ghost use Rattle.omos_files.specs.Files.{content_of, with_content, CopyOf};
+ghost use Rattle.omos_files.specs.Files.{place_of_file};
 
 use crate::files::FileRead;
 use omos_base::{Bytes, NoMemory};
@@ -9,7 +10,7 @@ use std::alloc::Global;
 
 /// Where the first file of the name stands, or how many files there are.
 pub(crate) fn place_of(files: &[(Bytes, Bytes)], name: &[u8]) -> usize
-    ensures place { result ≡ place_of name.now files.now }
+    ensures place { result ≡ place_of_file name.now files.now }
     ensures within { result ≤ length files.now }
 {
     match files.split_first() {

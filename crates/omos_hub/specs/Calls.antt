@@ -46,8 +46,8 @@ abbrev pub Crosses : Standing → Standing → Type 0
 Crosses old new = new ≡ record old { crossed = option_map (λ (n : ℕ). n + 1) old.crossed }
 
 -- the module and its layout are those of the ticket's plan
-abbrev pub Plans : TicketParts → Ready → Type 0
-Plans t r = (plan : Plan) × IsPlanFor t r plan
+abbrev pub PlansTicket : TicketParts → Ready → Type 0
+PlansTicket t r = (plan : Plan) × IsPlanFor t r plan
 
 abbrev pub PlacesAt : Bool → Standing → Standing → TicketParts → Ready → PlaceReply → Type 0
 PlacesAt alone old new t r reply = AtTurn alone old new (λ a b. PlaceGives a t r reply b)
@@ -61,5 +61,5 @@ Flushes alone old new path reply = AtTurn alone old new (λ a b. FlushGives a ol
 abbrev pub Lists : Bool → Standing → Standing → Name → PlacesReply → Type 0
 Lists alone old new path reply = AtTurn alone old new (λ a b. PlacesGives a old.seat path reply b)
 
-abbrev pub Counts : Bool → Standing → Standing → StatsReply → Type 0
-Counts alone old new reply = AtTurn alone old new (λ a b. StatsGives a old.seat reply b)
+abbrev pub CountsAtTurn : Bool → Standing → Standing → StatsReply → Type 0
+CountsAtTurn alone old new reply = AtTurn alone old new (λ a b. StatsGives a old.seat reply b)

@@ -15,7 +15,7 @@ abbrev pub made_at : ℕ → ℕ → ℕ
 made_at count number = cond (eqb number 1) count 0
 
 -- the pass of this number, of so many
-pub record IsPass (hub : TableId) (count number : ℕ) (p : Knowledge Step) : Type 0 where
+pub record IsPassOf (hub : TableId) (count number : ℕ) (p : Knowledge Step) : Type 0 where
   pub lock : p.lock ≡ hub
   pub idle : p.holds_turn ≡ false
   pub number_is : p.number ≡ number
@@ -26,7 +26,7 @@ pub record IsPass (hub : TableId) (count number : ℕ) (p : Knowledge Step) : Ty
 pub record AreAll (hub : TableId) (passes : List (Knowledge Step)) : Type 0 where
   pub some : 0 < length passes
   pub each : (k : ℕ) (d : Knowledge Step) → k < length passes
-      → IsPass hub (length passes) (k + 1) (slice_index_or passes k d)
+      → IsPassOf hub (length passes) (k + 1) (slice_index_or passes k d)
 
 -- a pass as it was opened
 abbrev pub new_pass : TableId → ℕ → ℕ → ℕ → ℕ → Knowledge Step

@@ -11,7 +11,7 @@ use Rattle.omos_hub.specs.Turns.{Turn, Moves, OthersAdd, lengths, steps_at}
 
 -- what a turn leaves of a pass: the lock that it is at, the lock that it is of, how many passes
 -- were split off and which were joined into it, and whether it holds a turn
-pub record Line : Type 0 where
+pub record PassLine : Type 0 where
   pub hub : TableId
   pub lock : TableId
   pub made : ℕ
@@ -28,7 +28,7 @@ pub record Standing : Type 0 where
   pub steps : List Step
   pub turns : Option (List ℕ)
   pub crossed : Option ℕ
-  pub line : Option Line
+  pub line : Option PassLine
 
 -- of a seat that has a store for itself
 abbrev pub standing_of : StoreParts → ℕ → Standing
@@ -70,7 +70,7 @@ HasTurns n None = Unit {0}
 HasTurns n (Some ts) = length ts + n ≤ 2 ^ 40
 
 -- a pass is of this lock, isn't the one that a lock begins with, and holds no turn
-abbrev pub InLine : ℕ → Option Line → Type 0
+abbrev pub InLine : ℕ → Option PassLine → Type 0
 InLine seat None = Unit {0}
 InLine seat (Some l) = (l.lock ≡ l.hub) × (l.holds_turn ≡ false) × (0 < seat)
 

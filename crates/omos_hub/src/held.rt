@@ -8,7 +8,8 @@ ghost use Rattle.turn_lock.specs.Steps.{steps_by};
 ghost use Rattle.hub_store.specs.Links.{AskGives, FinishGives, MayFinish, PlaceGives};
 ghost use Rattle.hub_store.specs.Parts.{IsTicket};
 ghost use Rattle.hub_store.specs.Requests.{FlushGives, MissedGives, PlacesGives, StatsGives};
-ghost use Rattle.omos_hub.specs.Calls.{Plans, PublishGives};
+ghost use Rattle.omos_hub.specs.Calls.{PublishGives};
+ghost use Rattle.omos_hub.specs.Calls.{PlansTicket};
 ghost use Rattle.omos_hub.specs.Passes.{Turned};
 
 use crate::publishing::Publishing;
@@ -177,7 +178,7 @@ impl Held {
         requires seat { 0 < ticket.now.seat }
         requires ticket { IsTicket self.old.steps ticket.now }
         requires unplaced { is_placed self.old.steps ticket.now.number ≡ false }
-        requires planned { Plans ticket.now planned.now }
+        requires planned { PlansTicket ticket.now planned.now }
         ensures told { PlaceGives self.old ticket.now planned.now result self.new }
         ensures turned { Turned ticket.now.seat self.old self.new }
         ensures legal { IsLegal self.new.limits.cache self.new.limits.steps self.new.steps }

@@ -10,8 +10,9 @@ ghost use Rattle.history_book.specs.Legal.{IsLegal};
 ghost use Rattle.history_book.specs.declared.step.Step.{Step};
 ghost use Rattle.hub_store.specs.Links.{MayFinish};
 ghost use Rattle.hub_store.specs.Parts.{IsTicket};
-ghost use Rattle.omos_hub.specs.Calls.{Asks, Counts, Finishes, Flushes, Lists, Misses};
-ghost use Rattle.omos_hub.specs.Calls.{PlacesAt, Plans, Publishes};
+ghost use Rattle.omos_hub.specs.Calls.{Asks, Finishes, Flushes, Lists, Misses};
+ghost use Rattle.omos_hub.specs.Calls.{PlacesAt, Publishes};
+ghost use Rattle.omos_hub.specs.Calls.{CountsAtTurn, PlansTicket};
 ghost use Rattle.omos_hub.specs.Passes.{AreNew, AreAll, HasAll};
 ghost use Rattle.omos_hub.specs.Standing.{CanTurn, seen_by};
 
@@ -140,7 +141,7 @@ impl Hub {
     /// The counts over the record that the turn found.
     pub fn stats<R: Wait>(&self, rt: &R, pass: &mut Pass<Step>) -> StatsReply
         requires { CanTurn 1 (seen_by self.now None pass.old) }
-        ensures { Counts false (seen_by self.now None pass.old)
+        ensures { CountsAtTurn false (seen_by self.now None pass.old)
             (seen_by self.now None pass.new) result }
     {
         let mut held = self.lock.take(rt, pass);
@@ -182,7 +183,7 @@ impl Hub {
         requires seat { ticket.now.seat ≡ pass.old.number }
         requires ticket { IsTicket pass.old.seen ticket.now }
         requires unplaced { is_placed pass.old.seen ticket.now.number ≡ false }
-        requires planned { Plans ticket.now planned.now }
+        requires planned { PlansTicket ticket.now planned.now }
         ensures { PlacesAt false (seen_by self.now None pass.old) (seen_by self.now None pass.new)
             ticket.now planned.now result }
     {

@@ -13,7 +13,8 @@ use Rattle.omos_wire.specs.Message as message
 use Rattle.refusal_lines.specs.declared.refused.Refused.{Refused}
 use Rattle.refusal_lines.specs.declared.refused.Refused.TheVariants as why
 use Rattle.omos_hub.specs.Standing.{is_miss, misses}
-use Rattle.omos_session.specs.Talk.{FaultsObject, FaultsText, FlushTold, IsFull, IsMiss, IsMissed, IsTold, IsTurn, LinkTold, PathTold, PlacesTold, PutTold, Row, SaysObject, SaysText, StatsTold, Told, turns_of}
+use Rattle.omos_session.specs.Talk.{FaultsObject, FaultsText, FlushTold, IsMiss, IsMissed, IsTold, IsTurn, LinkTold, PathTold, PlacesTold, PutTold, Row, SaysObject, SaysText, StatsTold, Told, turns_of}
+use Rattle.omos_session.specs.Talk.{FindsNoRoom}
 use Rattle.omos_hub.specs.Turns.{Turn}
 use Rattle.omos_session.proofs.Dues.{dues_are_no_miss}
 use Rattle.omos_session.proofs.Moves.{misses-append}
@@ -29,7 +30,7 @@ none turns e = omega (arith, ap misses e)
 quiet : (turns : List Turn) (found made : List Step) → IsTurn turns found made → count_by is_miss made ≡ 0 → Few turns
 quiet turns found made turn zero = omega (arith, ap misses turn, ap (count_by is_miss) (append-nil made), zero)
 
-full : (room : ℕ) (turns : List Turn) → IsFull room turns → Few turns
+full : (room : ℕ) (turns : List Turn) → FindsNoRoom room turns → Few turns
 full room turns h = quiet turns h.0 [] h.1 refl
 
 missed : (seat : ℕ) (turns : List Turn) → IsMissed seat turns → Few turns

@@ -4,7 +4,8 @@ use Rattle.std.proofs.lemmas.List.{length-map}
 use Rattle.history_book.specs.declared.step.Step.{Step}
 use Rattle.omos_outside.specs.Stream.{Stream}
 use Rattle.turn_lock.specs.Knowledge.{Knowledge, TableId}
-use Rattle.omos_hub.specs.Standing.{AtTurn, CanCross, Line, Rises, Standing, Went, seen_by}
+use Rattle.omos_hub.specs.Standing.{AtTurn, CanCross, Rises, Standing, Went, seen_by}
+use Rattle.omos_hub.specs.Standing.{PassLine}
 use Rattle.omos_hub.specs.Turns.{Turn, lengths}
 use Rattle.hub_store.specs.Parts.{StoreParts}
 use Rattle.omos_session.specs.Session.{IsSession}
@@ -40,7 +41,7 @@ rebuilt old new a b c d e f g =
     ∙ ap (λ x. record old { seen = new.seen; turns = new.turns; first = x; second = new.second }) f
     ∙ ap (λ x. record old { seen = new.seen; turns = new.turns; second = x }) g
 
-abbrev line_at : TableId → Knowledge Step → Line
+abbrev line_at : TableId → Knowledge Step → PassLine
 line_at hub p =
     record { hub = hub; lock = p.lock; made = p.made; joined = p.joined; holds_turn = p.holds_turn }
 
@@ -51,8 +52,8 @@ pub keeps : (hub hub' : TableId) (crossed crossed' : Option ℕ) (old new : Know
 keeps hub hub' crossed crossed' old new turns n went =
     let whole : Some (line_at hub' new) ≡ Some (line_at hub old) = went.line in
     let line : line_at hub' new ≡ line_at hub old = cc in
-    rebuilt old new (ap (λ (l : Line). l.lock) line) went.seat (ap (λ (l : Line). l.made) line)
-    (ap (λ (l : Line). l.joined) line) (ap (λ (l : Line). l.holds_turn) line) went.cache went.room
+    rebuilt old new (ap (λ (l : PassLine). l.lock) line) went.seat (ap (λ (l : PassLine). l.made) line)
+    (ap (λ (l : PassLine). l.joined) line) (ap (λ (l : PassLine). l.holds_turn) line) went.cache went.room
 
 -- a session of a pass has 2^18 turns at most
 pub turns_bounded : (hub hub' : TableId) (crossed crossed' : Option ℕ) (old new : Knowledge Step)

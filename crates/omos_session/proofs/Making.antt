@@ -11,21 +11,22 @@ use Rattle.omos_model.specs.declared.placement.Place.{Place}
 use Rattle.omos_model.specs.declared.placement.Place.TheVariants as place
 use Rattle.history_book.specs.Legal.{HasPlace, IsLegal, IsRefusal}
 use Rattle.history_book.specs.declared.step.Step.{Step}
-use Rattle.hub_store.specs.Links.{IsPlanFor, MayFinish, PlaceGives, place_in, placing}
+use Rattle.hub_store.specs.Links.{IsPlanFor, MayFinish, PlaceGives, placing}
+use Rattle.hub_store.specs.Links.{place_for_ticket}
 use Rattle.hub_store.specs.Parts.{IsTicket, TicketParts, asking_of}
 use Rattle.hub_store.specs.declared.reply.PlaceReply.{PlaceReply}
 use Rattle.hub_store.specs.declared.reply.PlaceReply.TheVariants as placed
-use Rattle.omos_hub.specs.Calls.{Plans}
 use Rattle.omos_session.specs.Parts.{IsRight, Makes, MayMake, RefusesWith, outcome_of}
 use Rattle.omos_hub.specs.Standing.{AtTurn, Standing}
 use Rattle.omos_session.specs.Talk.{IsBetween}
 use Rattle.omos_hub.specs.Turns.{turn_of, IsOf}
 use Rattle.omos_session.specs.declared.linking.Made.{Made}
 use Rattle.omos_session.specs.declared.linking.Made.TheVariants as made
+use Rattle.omos_hub.specs.Calls.{PlansTicket}
 use Rattle.omos_session.proofs.Going.{went_none, went_once}
 
 -- where the plan of an open request stands
-has_place : (P : List Step) (t : TicketParts) (r : Ready) (plan : Plan) (at : Place) → IsTicket P t → IsPlanFor t r plan → place_in P t r ≡ at → HasPlace P (asking_of t) plan at
+has_place : (P : List Step) (t : TicketParts) (r : Ready) (plan : Plan) (at : Place) → IsTicket P t → IsPlanFor t r plan → place_for_ticket P t r ≡ at → HasPlace P (asking_of t) plan at
 has_place P t r plan at ticket planned stands = record {
   planned = rw (← ticket.space) planned.planned;
   place = rw (← planned.pages, ← planned.lo, ← planned.hi) stands;
@@ -54,7 +55,7 @@ same_answer t r plan base law planned =
     ∙ ap (λ (p : List ℕ). answer_at r.evaluated.footprint p base) (sym planned.path)
 
 may_place : (P : List Step) (t : TicketParts) (r : Ready) (plan : Plan) (base : ℕ) (m : Made) → OwnFrameLaw → IsTicket P t → IsPlanFor t r plan
-    → place_in P t r ≡ place.Held base → MayMake r base m → MayFinish P t (outcome_of m)
+    → place_for_ticket P t r ≡ place.Held base → MayMake r base m → MayFinish P t (outcome_of m)
 may_place P t r plan base (made.Image l) law ticket planned stands may = (
   plan,
   record {
@@ -110,7 +111,7 @@ placing_between found t pages place.NoRoom = inl refl
 makes_at : (alone : Bool) (old new : Standing) (t : TicketParts) (r : Ready) (reply : PlaceReply) (m : Made) → t.seat ≡ old.seat
     → AtTurn alone old new (λ a b. PlaceGives a t r reply b) → MayFinish new.steps t (outcome_of m) → IsRight t m → Makes alone old new t m
 makes_at alone old new t r reply m same turn may right =
-    let at : Place = place_in turn.found t r in
+    let at : Place = place_for_ticket turn.found t r in
     record {
       turns = turn_of turn.found (placing t r.layout.pages at) ∷ [];
       went = went_once alone old new (λ a b. PlaceGives a t r reply b) turn (placing t r.layout.pages at) (placing_mine old.seat t r.layout.pages at same) turn.gives.steps;
@@ -122,7 +123,7 @@ makes_at alone old new t r reply m same turn may right =
     }
 
 -- at a place
-pub makes_placed : (alone : Bool) (old new : Standing) (t : TicketParts) (r : Ready) (base : ℕ) (m : Made) → OwnFrameLaw → t.seat ≡ old.seat → Plans t r
+pub makes_placed : (alone : Bool) (old new : Standing) (t : TicketParts) (r : Ready) (base : ℕ) (m : Made) → OwnFrameLaw → t.seat ≡ old.seat → PlansTicket t r
     → AtTurn alone old new (λ a b. PlaceGives a t r (placed.At base) b) → MayMake r base m → Makes alone old new t m
 makes_placed alone old new t r base m law same plans turn may =
     makes_at alone old new t r (placed.At base) m same turn
@@ -130,7 +131,7 @@ makes_placed alone old new t r base m law same plans turn may =
     (right_place t r plans.0 base m law plans.1 may)
 
 -- where no place is free
-pub makes_no_room : (alone : Bool) (old new : Standing) (t : TicketParts) (r : Ready) (m : Made) → t.seat ≡ old.seat → Plans t r
+pub makes_no_room : (alone : Bool) (old new : Standing) (t : TicketParts) (r : Ready) (m : Made) → t.seat ≡ old.seat → PlansTicket t r
     → AtTurn alone old new (λ a b. PlaceGives a t r placed.NoRoom b)
     → RefusesWith (refusal.NoRoom r.layout.pages r.evaluated.lo r.evaluated.hi) m → Makes alone old new t m
 makes_no_room alone old new t r m same plans turn refuses =

@@ -21,22 +21,26 @@ use Rattle.history_book.specs.declared.step.Note.{Note}
 use Rattle.history_book.specs.declared.step.Note.TheVariants as note
 use Rattle.history_book.specs.declared.step.Step.{Step}
 use Rattle.history_book.specs.declared.step.Step.TheVariants.{Missed, Asked, Answered, Flushed}
-use Rattle.hub_store.specs.Links.{AskGives, FinishGives, MayFinish, next_ticket, note_of}
+use Rattle.hub_store.specs.Links.{AskGives, FinishGives, MayFinish, next_ticket}
+use Rattle.hub_store.specs.Links.{note_of_outcome}
 use Rattle.hub_store.specs.Parts.{Appended, StoreParts, TicketParts, store_of}
 use Rattle.hub_store.specs.Parts as hub
 use Rattle.hub_store.specs.declared.reply.AskReply.TheVariants as ask
 use Rattle.hub_store.specs.declared.reply.Outcome.{Outcome}
 use Rattle.hub_store.specs.declared.reply.Outcome.TheVariants as outcome
-use Rattle.hub_store.specs.Requests.{flushing, places_of}
+use Rattle.hub_store.specs.Requests.{flushing}
+use Rattle.hub_store.specs.Requests.{placements_of}
 use Rattle.omos_model.specs.Places.{is_of}
 use Rattle.omos_model.specs.declared.placement.Placement.{Placement}
-use Rattle.omos_wire.specs.Answer.{Answer, IsSendable, span_of}
+use Rattle.omos_wire.specs.Answer.{Answer, IsSendable}
+use Rattle.omos_wire.specs.Answer.{wire_span}
 use Rattle.refusal_lines.specs.declared.refused.Refused.{Refused}
 use Rattle.omos_wire.specs.Answer as answer
 use Rattle.refusal_lines.specs.declared.refused.Refused.TheVariants as why
 use Rattle.omos_session.specs.Parts.{Concludes, Goes, MissTold, PublishTold, RepliesTo, ServesBy}
 use Rattle.omos_hub.specs.Standing.{AtTurn, Standing, Went, is_miss, misses, store_at}
-use Rattle.omos_session.specs.Talk.{FlushTold, IsBetween, IsFull, IsMiss, IsMissed, LinkTold, PathTold, PutTold}
+use Rattle.omos_session.specs.Talk.{FlushTold, IsBetween, IsMiss, IsMissed, LinkTold, PathTold, PutTold}
+use Rattle.omos_session.specs.Talk.{FindsNoRoom}
 use Rattle.omos_hub.specs.Turns.{IsDue}
 use Rattle.omos_hub.specs.Turns.{Turn, turn_of, IsOf}
 use Rattle.omos_session.proofs.Dues.{dues_are_due, dues_are_of, dues_are_no_miss}
@@ -70,7 +74,7 @@ serves_still alone old new G turn Is same told =
 
 -- a record without room
 pub serves_full : (alone : Bool) (old new : Standing) (G : StoreParts → StoreParts → Type 0) (turn : AtTurn alone old new G) (Is : List Turn → Type 0)
-    → hub.IsFull (store_at old turn.found) (store_at old new.steps) → (IsFull old.room (turn_of turn.found [] ∷ []) → Is (turn_of turn.found [] ∷ []))
+    → hub.IsFull (store_at old turn.found) (store_at old new.steps) → (FindsNoRoom old.room (turn_of turn.found [] ∷ []) → Is (turn_of turn.found [] ∷ []))
     → ServesBy alone old new Is
 serves_full alone old new G turn Is full told = serves_still alone old new G turn Is full.1 (told (turn.found, refl, full.0))
 
@@ -102,14 +106,14 @@ between_are_no_miss seat number path (t ∷ ts) h =
 pub concludes_by : (alone : Bool) (old new : Standing) (t : TicketParts) (o : Outcome) (a : Answer) → t.seat ≡ old.seat
     → AtTurn alone old new (λ x y. FinishGives x t o y) → MayFinish old.steps t o → RepliesTo t o a → Concludes alone old new t a
 concludes_by alone old new t o a same turn may replies =
-    let due : List Step = dues old.cache (turn.found ++ Answered t.seat t.number (note_of o) ∷ []) in
-    let fine = dues_are_due old.cache turn.found t.seat t.number (note_of o) in
+    let due : List Step = dues old.cache (turn.found ++ Answered t.seat t.number (note_of_outcome o) ∷ []) in
+    let fine = dues_are_due old.cache turn.found t.seat t.number (note_of_outcome o) in
     record {
-      last = turn_of turn.found (Answered t.seat t.number (note_of o) ∷ due);
+      last = turn_of turn.found (Answered t.seat t.number (note_of_outcome o) ∷ due);
       end = o;
       due = due;
-      went = went_once alone old new (λ x y. FinishGives x t o y) turn (Answered t.seat t.number (note_of o) ∷ due)
-          (subst (λ (s : ℕ). AllByRecursion (IsOf s) (Answered t.seat t.number (note_of o) ∷ due)) same (refl, dues_are_of t.seat t.number due fine)) turn.gives;
+      went = went_once alone old new (λ x y. FinishGives x t o y) turn (Answered t.seat t.number (note_of_outcome o) ∷ due)
+          (subst (λ (s : ℕ). AllByRecursion (IsOf s) (Answered t.seat t.number (note_of_outcome o) ∷ due)) same (refl, dues_are_of t.seat t.number due fine)) turn.gives;
       may = may;
       answered = refl;
       stored = fine;
@@ -136,7 +140,7 @@ HasImage ns path (outcome.Image l) = answer_at ns path l.base ≡ Ok l.bytes
 HasImage ns path _ = Unit {0}
 
 link_told : (room seat : ℕ) (path : Name) (turns : List Turn) (v : ℕ) (o : Outcome) (a : Answer) (t : TicketParts)
-    → (m : IsMiss seat path turns v (note_of o)) → t.version ≡ v → t.space ≡ namespace_in m.first.found v → t.path ≡ path
+    → (m : IsMiss seat path turns v (note_of_outcome o)) → t.version ≡ v → t.space ≡ namespace_in m.first.found v → t.path ≡ path
     → RepliesTo t o a → LinkTold room seat path turns a
 link_told room seat path turns v (outcome.Image l) a t m at space same replies =
     let here : answer_at (namespace_in m.first.found v) path l.base ≡ Ok l.bytes = rw (← space, ← same) replies.1 in
@@ -159,7 +163,7 @@ serves_gone alone old mid new path G turn a grown goes =
     let asked = went_once alone old mid G turn (Asked old.seat t.number path t.version false ∷ []) (refl, tt) grown in
     let gate = went_gate alone mid goes.gated (rw (asked.cache, asked.room) asked.legal) goes.crossed in
     let after = went_then alone mid goes.gated new [] (goes.turns ++ c.last ∷ []) 1 0 gate (went_then alone goes.gated goes.made new goes.turns (c.last ∷ []) 0 0 goes.went c.went) in
-    let m : IsMiss old.seat path turns t.version (note_of c.end) = record {
+    let m : IsMiss old.seat path turns t.version (note_of_outcome c.end) = record {
       first = first;
       between = goes.turns;
       last = c.last;
@@ -173,7 +177,7 @@ serves_gone alone old mid new path G turn a grown goes =
     } in
     record {
       turns = turns;
-      went = subst (Went alone old new turns) (sym (missed_turns first goes.turns c.last old.seat t.number path t.version (note_of c.end) c.due refl goes.each c.answered c.stored))
+      went = subst (Went alone old new turns) (sym (missed_turns first goes.turns c.last old.seat t.number path t.version (note_of_outcome c.end) c.due refl goes.each c.answered c.stored))
           (went_then alone old mid new (first ∷ []) (goes.turns ++ c.last ∷ []) 0 1 asked after);
       told = link_told old.room old.seat path turns t.version c.end a t m refl refl refl c.replied;
       few = omega (arith, length-append goes.turns (c.last ∷ []), goes.few);
@@ -257,10 +261,10 @@ path_none alone s bytes x Is legal fault =
 few_filtered : (p : Placement → Bool) (xs : List Placement) → length (filter p xs) ≤ length xs
 few_filtered p xs = omega (arith, length-filter p xs, count_by-le-length p xs)
 
-pub places_are_few : (room : ℕ) (P : List Step) (path : Name) (list : List Placement) → room ≤ 65536 → HasRoom room P → list ≡ places_of P path
-    → 5 + 12 * length (map span_of list) ≤ 16777216
+pub places_are_few : (room : ℕ) (P : List Step) (path : Name) (list : List Placement) → room ≤ 65536 → HasRoom room P → list ≡ placements_of P path
+    → 5 + 12 * length (map wire_span list) ≤ 16777216
 places_are_few room P path list few has is =
-    omega (arith, length-map list span_of, ap length is, few_filtered (is_of path) (book_of P), length-filter_map placement_of P, has, few)
+    omega (arith, length-map list wire_span, ap length is, few_filtered (is_of path) (book_of P), length-filter_map placement_of P, has, few)
 
 -- an image's reply isn't too long
 pub image_is_sendable : (ns : Space) (path : Name) (v base : ℕ) (bytes : List ℕ) → answer_at ns path base ≡ Ok bytes → IsSendable (answer.Image v base bytes)

@@ -7,7 +7,8 @@ use Rattle.history_book.specs.Legal.{IsLegal}
 use Rattle.omos_outside.proofs.Known.{Appends-then, Gives-then, Gives-nil}
 use Rattle.omos_wire.specs.Answer.{Answer, reply_frame}
 use Rattle.omos_wire.specs.Found.{Took}
-use Rattle.omos_wire.specs.Message.{Message, End, frame, Fits}
+use Rattle.omos_wire.specs.Message.{Message, End, frame}
+use Rattle.omos_wire.specs.Message.{HasFrame}
 use Rattle.omos_outside.specs.Sent.{WrotePart}
 use Rattle.omos_wire.specs.Sight.{sight, Short}
 use Rattle.omos_wire.specs.Stream.{Starts, Held}
@@ -15,7 +16,8 @@ use Rattle.omos_session.specs.Parts.{Replied, Serves}
 use Rattle.omos_session.specs.Session.{IsSession, frames, reply_bytes}
 use Rattle.omos_session.specs.Parts.{Going}
 use Rattle.omos_hub.specs.Standing.{Standing, Went, misses}
-use Rattle.omos_session.specs.Talk.{IsTold, Row, row_of, turns_of}
+use Rattle.omos_session.specs.Talk.{IsTold, Row, turns_of}
+use Rattle.omos_session.specs.Talk.{row_with}
 use Rattle.omos_hub.specs.Turns.{Turn}
 use Rattle.omos_session.specs.declared.session.SessionEnd.TheVariants as ending
 use Rattle.omos_session.proofs.Going.{went_none, went_then}
@@ -41,12 +43,12 @@ Appends-nil (Some xs) = sym (append-nil xs)
 
 -- ---- a frame more
 
-starts_then : (taken : List ℕ) (fs : List Message) (m : Message) (waiting rest : List ℕ) → Starts taken fs waiting → waiting ≡ frame m ++ rest → Fits m → Starts taken (fs ++ m ∷ []) rest
+starts_then : (taken : List ℕ) (fs : List Message) (m : Message) (waiting rest : List ℕ) → Starts taken fs waiting → waiting ≡ frame m ++ rest → HasFrame m → Starts taken (fs ++ m ∷ []) rest
 starts_then taken fs m waiting rest starts here fits = record {
   whole =
       starts.whole ∙ ap (λ (s : List ℕ). flat_map frame fs ++ s) here ∙ sym (append_assoc (flat_map frame fs) (frame m) rest)
       ∙ ap (λ (s : List ℕ). s ++ rest) (sym (flat_map_last frame fs m));
-  each = all_last Fits fs m starts.each fits;
+  each = all_last HasFrame fs m starts.each fits;
 }
 
 starts_more : (taken bytes : List ℕ) (fs : List Message) (waiting : List ℕ) → Starts taken fs waiting → Starts (taken ++ bytes) fs (waiting ++ bytes)
@@ -57,17 +59,17 @@ starts_more taken bytes fs waiting starts = record {
 
 -- the row of a frame that was served
 abbrev row_for : (alone : Bool) (old new : Standing) (m : Message) (a : Answer) → Serves alone old new m a → Row
-row_for alone old new m a s = row_of m s.turns a
+row_for alone old new m a s = row_with m s.turns a
 
 told_row : (old mid new : Standing) (alone : Bool) (m : Message) (a : Answer) (s : Serves alone mid new m a) → mid.seat ≡ old.seat → mid.room ≡ old.room
-    → IsTold old.room old.seat (row_of m s.turns a)
+    → IsTold old.room old.seat (row_with m s.turns a)
 told_row old mid new alone m a s seat room = record { told = rw (← seat, ← room) s.told; few = s.few }
 
 went_row : (alone : Bool) (old mid new : Standing) (rows : List Row) (m : Message) (a : Answer) (s : Serves alone mid new m a)
     → Went alone old mid (turns_of rows) (misses (turns_of rows))
-    → Went alone old new (turns_of (rows ++ row_of m s.turns a ∷ [])) (misses (turns_of (rows ++ row_of m s.turns a ∷ [])))
+    → Went alone old new (turns_of (rows ++ row_with m s.turns a ∷ [])) (misses (turns_of (rows ++ row_with m s.turns a ∷ [])))
 went_row alone old mid new rows m a s went =
-    let more : turns_of (rows ++ row_of m s.turns a ∷ []) ≡ turns_of rows ++ s.turns = flat_map_last (λ (r : Row). r.turns) rows (row_of m s.turns a) in
+    let more : turns_of (rows ++ row_with m s.turns a ∷ []) ≡ turns_of rows ++ s.turns = flat_map_last (λ (r : Row). r.turns) rows (row_with m s.turns a) in
     subst (λ (ts : List Turn). Went alone old new ts (misses ts)) (sym more)
     (subst (Went alone old new (turns_of rows ++ s.turns)) (sym (misses-append (turns_of rows) s.turns))
     (went_then alone old mid new (turns_of rows) s.turns (misses (turns_of rows)) (misses s.turns) went s.went))
@@ -114,9 +116,9 @@ record Further (alone : Bool) (old new : Standing) (held held' : Option (List �
 further : (alone : Bool) (old mid new : Standing) (told told' : Option Stream) (held held' held'' : Option (List ℕ)) (count : ℕ) (before after : Held) (m : Message)
     → (going : Going alone old mid told told' held held' before.place count before.waiting) → Took before m after
     → (r : Replied alone mid new m held' held'')
-    → Further alone old new held held'' going.taken (going.rows ++ row_of m r.serves.turns r.reply ∷ []) after.place (count + 1) after.waiting
+    → Further alone old new held held'' going.taken (going.rows ++ row_with m r.serves.turns r.reply ∷ []) after.place (count + 1) after.waiting
 further alone old mid new told told' held held' held'' count before after m going took r =
-    let row : Row = row_of m r.serves.turns r.reply in
+    let row : Row = row_with m r.serves.turns r.reply in
     let one : frames (going.rows ++ row ∷ []) ≡ frames going.rows ++ m ∷ [] = map_last (λ (x : Row). x.frame) going.rows row in
     let starts = starts_then going.taken (frames going.rows) m before.waiting after.waiting going.starts took.bytes took.fits in
     let bytes : flat_map frame (frames (going.rows ++ row ∷ [])) ≡ flat_map frame (frames going.rows) ++ frame m =
@@ -138,7 +140,7 @@ pub going_row : (alone : Bool) (old mid new : Standing) (told told' : Option Str
 going_row alone old mid new told told' held held' held'' count before after m going took r goes_on =
     let f = further alone old mid new told told' held held' held'' count before after m going took r in
     record {
-      rows = going.rows ++ row_of m r.serves.turns r.reply ∷ [];
+      rows = going.rows ++ row_with m r.serves.turns r.reply ∷ [];
       taken = going.taken;
       went = f.went;
       rows_told = f.rows_told;
@@ -146,7 +148,7 @@ going_row alone old mid new told told' held held' held'' count before after m go
       starts = f.starts;
       at = f.at;
       wrote = f.wrote;
-      none_ended = all_last (λ (x : Row). x.frame ≡ End → ⊥) going.rows (row_of m r.serves.turns r.reply) going.none_ended goes_on;
+      none_ended = all_last (λ (x : Row). x.frame ≡ End → ⊥) going.rows (row_with m r.serves.turns r.reply) going.none_ended goes_on;
       counted = f.counted;
     }
 
@@ -158,7 +160,7 @@ pub session_ended : (alone : Bool) (old mid new : Standing) (told told' : Option
     → IsSession alone old new told told' held held'' ending.Ended
 session_ended alone old mid new told told' held held' held'' count before after m going took r last few =
     let f = further alone old mid new told told' held held' held'' count before after m going took r in
-    let row : Row = row_of m r.serves.turns r.reply in
+    let row : Row = row_with m r.serves.turns r.reply in
     record {
       rows = going.rows ++ row ∷ [];
       taken = going.taken;
@@ -177,7 +179,7 @@ pub session_cut_off : (alone : Bool) (old mid new : Standing) (told told' : Opti
     → (reply : Answer) → Serves alone mid new m reply → WrotePart held' held'' (reply_frame reply) → count < 65536
     → IsSession alone old new told told' held held'' ending.WriteFault
 session_cut_off alone old mid new told told' held held' held'' count before after m going took reply serves part few =
-    let row : Row = row_of m serves.turns reply in
+    let row : Row = row_with m serves.turns reply in
     let one : frames (going.rows ++ row ∷ []) ≡ frames going.rows ++ m ∷ [] = map_last (λ (x : Row). x.frame) going.rows row in
     let starts = starts_then going.taken (frames going.rows) m before.waiting after.waiting going.starts took.bytes took.fits in
     record {

@@ -3,7 +3,8 @@ use Rattle.std.specs.Prelude.{◌≡◌, ◌==◌, ◌⊎◌, ℕ, ◌^◌, ◌�
 use Rattle.std.specs.Prelude.{filter, Option, Some}
 use Rattle.std.specs.List.{AllByRecursion, flat_map}
 use Rattle.omos_outside.specs.Stream.{Stream}
-use Rattle.omos_wire.specs.Message.{End, Fits, Message, frame}
+use Rattle.omos_wire.specs.Message.{End, Message, frame}
+use Rattle.omos_wire.specs.Message.{HasFrame}
 use Rattle.omos_hub.specs.Standing.{Standing, misses}
 use Rattle.omos_session.specs.declared.session.SessionEnd.{SessionEnd}
 use Rattle.omos_session.specs.declared.session.SessionEnd.TheVariants as ending
@@ -37,8 +38,8 @@ abbrev pub Extends : List Step → List Step → Type 0
 Extends before after = (more : List Step) × (after ≡ before ++ more)
 
 -- what a turn found and left stands at the front of the record from then on
-abbrev pub FrontLaw : Type 0
-FrontLaw =
+abbrev pub TurnsStayLaw : Type 0
+TurnsStayLaw =
     (alone : Bool) (seat : ℕ) (old new : List Step) (turns : List Turn)
     → Moves alone seat old turns new
     → Extends old new × AllByRecursion (λ (t : Turn). Extends (left_by t) new) turns
@@ -76,6 +77,6 @@ CompleteLaw =
     (alone : Bool) (old new : Standing) (s s' : Stream) (held held' : Option (List ℕ))
     (end : SessionEnd) (frames : List Message)
     → IsSession alone old new (Some s) (Some s') held held' end
-    → s.left ≡ flat_map frame frames → AllByRecursion Fits frames → EndsOnce frames
+    → s.left ≡ flat_map frame frames → AllByRecursion HasFrame frames → EndsOnce frames
     → length frames ≤ max_frames → (end ≡ ending.ReadFault → ⊥) → (end ≡ ending.WriteFault → ⊥)
     → (end ≡ ending.Ended) ⊎ (end ≡ ending.NoMemory)

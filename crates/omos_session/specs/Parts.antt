@@ -15,7 +15,8 @@ use Rattle.link_model.specs.Module.{Ready}
 use Rattle.link_plan.specs.Images.{IsImageAt}
 use Rattle.history_book.specs.declared.step.Step.{Step}
 use Rattle.history_book.specs.declared.step.Step.TheVariants.{Answered, Put}
-use Rattle.hub_store.specs.Links.{MayFinish, note_of}
+use Rattle.hub_store.specs.Links.{MayFinish}
+use Rattle.hub_store.specs.Links.{note_of_outcome}
 use Rattle.hub_store.specs.Parts.{TicketParts, IsTicket}
 use Rattle.hub_store.specs.declared.reply.Outcome.{Outcome}
 use Rattle.hub_store.specs.declared.reply.Outcome.TheVariants as outcome
@@ -31,7 +32,8 @@ use Rattle.omos_session.specs.declared.session.SessionEnd.TheVariants as ending
 use Rattle.refusal_lines.specs.declared.refused.Refused.TheVariants as why
 use Rattle.omos_hub.specs.Calls.{Crosses}
 use Rattle.omos_hub.specs.Standing.{Standing, Went, misses}
-use Rattle.omos_session.specs.Talk.{IsBetween, IsFull, IsMissed, IsTooMuch, IsTurn, Told}
+use Rattle.omos_session.specs.Talk.{IsBetween, IsMissed, IsTurn, Told}
+use Rattle.omos_session.specs.Talk.{FindsNoRoom, PassesMaxKept}
 use Rattle.omos_hub.specs.Turns.{IsDue}
 use Rattle.omos_hub.specs.Turns.{Turn}
 use Rattle.omos_session.specs.declared.linking.Made.{Made}
@@ -57,7 +59,7 @@ Serves alone old new m a = ServesBy alone old new (λ turns. Told old.room old.s
 -- want of memory was recorded, or the record had no room for it
 abbrev pub MissTold : ℕ → ℕ → List Turn → Answer → Type 0
 MissTold room seat turns answer.NoMemory = IsMissed seat turns
-MissTold room seat turns answer.Full = IsFull room turns
+MissTold room seat turns answer.Full = FindsNoRoom room turns
 MissTold room seat turns _ = ⊥
 
 -- an entry of this size was published, or there was no room for it, or no memory
@@ -66,9 +68,9 @@ PublishTold room seat path e size turns (answer.Published v) =
     (P : List Step) × (number : ℕ) × IsTurn turns P (Put seat number path e size ∷ [])
     × (v ≡ version_after P + 1)
 PublishTold room seat path e size turns answer.KeptFull =
-    (P : List Step) × IsTurn turns P [] × IsTooMuch P size
+    (P : List Step) × IsTurn turns P [] × PassesMaxKept P size
 PublishTold room seat path e size turns answer.NoMemory = IsMissed seat turns
-PublishTold room seat path e size turns answer.Full = IsFull room turns
+PublishTold room seat path e size turns answer.Full = FindsNoRoom room turns
 PublishTold room seat path e size turns _ = ⊥
 
 -- ---- the parts of a link
@@ -122,7 +124,7 @@ pub record Concludes (alone : Bool) (old new : Standing) (t : TicketParts) (a : 
   pub due : List Step
   pub went : Went alone old new (last ∷ []) 0
   pub may : MayFinish old.steps t end
-  pub answered : last.made ≡ Answered t.seat t.number (note_of end) ∷ due
+  pub answered : last.made ≡ Answered t.seat t.number (note_of_outcome end) ∷ due
   pub stored : AllByRecursion (IsDue t.seat t.number) due
   pub replied : RepliesTo t end a
 
@@ -155,13 +157,13 @@ IsServed served.Failed alone old new m held held' =
 
 -- ---- a piece, read
 
-abbrev pub IsRead : Piece → Option Stream → Option Stream → Held → Held → Type 0
-IsRead piece.Fed told told' old new =
+abbrev pub IsPieceRead : Piece → Option Stream → Option Stream → Held → Held → Type 0
+IsPieceRead piece.Fed told told' old new =
     (bytes : List ℕ) × (0 < length bytes) × Gives told told' bytes
     × (new ≡ record { place = old.place; waiting = old.waiting ++ bytes })
-IsRead piece.End told told' old new = Gives told told' [] × (new ≡ old) × IsAtEnd told'
-IsRead piece.Failed told told' old new = Gives told told' [] × (new ≡ old)
-IsRead piece.NoMemory told told' old new = (bytes : List ℕ) × Gives told told' bytes × (new ≡ old)
+IsPieceRead piece.End told told' old new = Gives told told' [] × (new ≡ old) × IsAtEnd told'
+IsPieceRead piece.Failed told told' old new = Gives told told' [] × (new ≡ old)
+IsPieceRead piece.NoMemory told told' old new = (bytes : List ℕ) × Gives told told' bytes × (new ≡ old)
 
 -- ---- the loop
 

@@ -30,25 +30,25 @@ abbrev pub max_frames : ℕ
 max_frames = 65536
 
 -- the rows are of these frames of what was taken, by how the session ends
-abbrev pub Answers : SessionEnd → Option Stream → List ℕ → List Row → Type 0
-Answers ending.Ended now taken rows =
+abbrev pub AnswersTaken : SessionEnd → Option Stream → List ℕ → List Row → Type 0
+AnswersTaken ending.Ended now taken rows =
     (before : List Row) × (last : Row) × (tail : List ℕ) × IsLast rows before last
     × (last.frame ≡ End) × Starts taken (frames rows) tail
-Answers ending.Closed now taken rows =
+AnswersTaken ending.Closed now taken rows =
     NoEnd rows × Cut taken (frames rows) (Waiting 0) × IsAtEnd now
-Answers (ending.Truncated count) now taken rows =
+AnswersTaken (ending.Truncated count) now taken rows =
     NoEnd rows × Cut taken (frames rows) (Waiting count) × (1 ≤ count) × IsAtEnd now
-Answers (ending.BadFrame place cause) now taken rows =
+AnswersTaken (ending.BadFrame place cause) now taken rows =
     NoEnd rows × Cut taken (frames rows) (Stuck place cause)
-Answers ending.ReadFault now taken rows =
+AnswersTaken ending.ReadFault now taken rows =
     NoEnd rows × (count : ℕ) × Cut taken (frames rows) (Waiting count)
-Answers ending.WriteFault now taken rows =
+AnswersTaken ending.WriteFault now taken rows =
     (before : List Row) × (last : Row) × (tail : List ℕ) × IsLast rows before last
     × Starts taken (frames rows) tail
-Answers ending.TooMany now taken rows =
+AnswersTaken ending.TooMany now taken rows =
     NoEnd rows × (length rows ≡ max_frames)
     × (next : Message) × (tail : List ℕ) × Starts taken (frames rows ++ next ∷ []) tail
-Answers ending.NoMemory now taken rows =
+AnswersTaken ending.NoMemory now taken rows =
     NoEnd rows × (tail : List ℕ) × Starts taken (frames rows) tail
 
 -- ---- the bytes that are written
@@ -64,9 +64,9 @@ IsCutOff written rows =
     × (written ≡ reply_bytes before ++ take count (reply_frame last.reply))
 
 -- the replies in their order; where the sink failed, the last one in part
-abbrev pub Writes : SessionEnd → List ℕ → List Row → Type 0
-Writes ending.WriteFault written rows = IsCutOff written rows
-Writes _ written rows = written ≡ reply_bytes rows
+abbrev pub WritesReplies : SessionEnd → List ℕ → List Row → Type 0
+WritesReplies ending.WriteFault written rows = IsCutOff written rows
+WritesReplies _ written rows = written ≡ reply_bytes rows
 
 -- ---- the whole
 
@@ -80,7 +80,7 @@ pub record IsSession (alone : Bool) (old new : Standing) (told told' : Option St
   pub went : Went alone old new (turns_of rows) (misses (turns_of rows))
   pub rows_told : AllByRecursion (IsTold old.room old.seat) rows
   pub read : Gives told told' taken
-  pub answers : Answers end told' taken rows
+  pub answers : AnswersTaken end told' taken rows
   pub wrote : Appends held held' written
-  pub writes : Writes end written rows
+  pub writes : WritesReplies end written rows
   pub few : length rows ≤ max_frames

@@ -12,7 +12,8 @@ use Rattle.link_model.specs.Answer.{answer}
 use Rattle.bp_tree.specs.Texts.{IsText}
 use Rattle.bp_tree.specs.TextFaults.{IsTextFault}
 use Rattle.history_book.specs.Told.{kept_bytes, namespace_in, version_after}
-use Rattle.hub_store.specs.Requests.{counts_of, places_of}
+use Rattle.hub_store.specs.Requests.{counts_of}
+use Rattle.hub_store.specs.Requests.{placements_of}
 use Rattle.history_book.specs.Legal.{max_kept}
 use Rattle.history_book.specs.Room.{HasRoom}
 use Rattle.history_book.specs.declared.step.Step.{Step}
@@ -23,7 +24,8 @@ use Rattle.history_book.specs.declared.step.Note.TheVariants as note
 use Rattle.history_book.specs.declared.step.Look.TheVariants as look
 use Rattle.omos_wire.specs.Message.{Message}
 use Rattle.omos_wire.specs.Message as message
-use Rattle.omos_wire.specs.Answer.{Answer, span_of}
+use Rattle.omos_wire.specs.Answer.{Answer}
+use Rattle.omos_wire.specs.Answer.{wire_span}
 use Rattle.omos_wire.specs.Answer as reply
 use Rattle.refusal_lines.specs.declared.refused.Refused.{Refused}
 use Rattle.refusal_lines.specs.declared.refused.Refused.TheVariants as why
@@ -35,8 +37,8 @@ pub record Row : Type 0 where
   pub turns : List Turn
   pub reply : Answer
 
-abbrev pub row_of : Message → List Turn → Answer → Row
-row_of m turns answer = record { frame = m; turns = turns; reply = answer }
+abbrev pub row_with : Message → List Turn → Answer → Row
+row_with m turns answer = record { frame = m; turns = turns; reply = answer }
 
 -- ---- one turn
 
@@ -45,8 +47,8 @@ abbrev pub IsTurn : List Turn → List Step → List Step → Type 0
 IsTurn turns found made = turns ≡ turn_of found made ∷ []
 
 -- one turn without a step, at a record without room
-abbrev pub IsFull : ℕ → List Turn → Type 0
-IsFull room turns = (P : List Step) × IsTurn turns P [] × (HasRoom room P → ⊥)
+abbrev pub FindsNoRoom : ℕ → List Turn → Type 0
+FindsNoRoom room turns = (P : List Step) × IsTurn turns P [] × (HasRoom room P → ⊥)
 
 -- one turn, at which it was recorded that memory had run out
 abbrev pub IsMissed : ℕ → List Turn → Type 0
@@ -55,8 +57,8 @@ IsMissed seat turns = (P : List Step) × (number : ℕ) × IsTurn turns P (Misse
 -- ---- publishing
 
 -- the published bytes of the record and these pass 268,435,456
-abbrev pub IsTooMuch : List Step → ℕ → Type 0
-IsTooMuch P size = max_kept < kept_bytes P + size
+abbrev pub PassesMaxKept : List Step → ℕ → Type 0
+PassesMaxKept P size = max_kept < kept_bytes P + size
 
 -- what a put's content says: an entry and its size, or why it is refused
 abbrev pub SaysObject : List ℕ → Entry → ℕ → Type 0
@@ -85,9 +87,9 @@ PutTold Says Faults room seat path turns (reply.Published v) =
     (e : Entry) × (size : ℕ) × Says e size × (P : List Step) × (number : ℕ)
     × IsTurn turns P (Put seat number path e size ∷ []) × (v ≡ version_after P + 1)
 PutTold Says Faults room seat path turns reply.KeptFull =
-    (e : Entry) × (size : ℕ) × Says e size × (P : List Step) × IsTurn turns P [] × IsTooMuch P size
+    (e : Entry) × (size : ℕ) × Says e size × (P : List Step) × IsTurn turns P [] × PassesMaxKept P size
 PutTold Says Faults room seat path turns (reply.Refused x) = Faults x × (turns ≡ [])
-PutTold Says Faults room seat path turns reply.Full = IsFull room turns
+PutTold Says Faults room seat path turns reply.Full = FindsNoRoom room turns
 PutTold Says Faults room seat path turns reply.NoMemory = IsMissed seat turns
 PutTold Says Faults room seat path turns _ = ⊥
 
@@ -121,20 +123,20 @@ pub record IsMiss (seat : ℕ) (path : Name) (turns : List Turn) (v : ℕ) (n : 
   pub stored : AllByRecursion (IsDue seat number) due
 
 -- the image of the path on the namespace of the asking
-abbrev pub IsImage : ℕ → Name → List Turn → ℕ → ℕ → List ℕ → Type 0
-IsImage seat path turns v base bytes =
+abbrev pub IsImageAsked : ℕ → Name → List Turn → ℕ → ℕ → List ℕ → Type 0
+IsImageAsked seat path turns v base bytes =
     (m : IsMiss seat path turns v (note.Image base))
     × (answer (namespace_in m.first.found v) path base ≡ Ok bytes)
 
 -- A link whose path is one.
 abbrev pub LinkTold : ℕ → ℕ → Name → List Turn → Answer → Type 0
 LinkTold room seat path turns (reply.Image v base bytes) =
-    IsHit seat path turns v base bytes ⊎ IsImage seat path turns v base bytes
+    IsHit seat path turns v base bytes ⊎ IsImageAsked seat path turns v base bytes
 LinkTold room seat path turns (reply.Refused (why.Link x)) =
     (v : ℕ) × IsMiss seat path turns v (note.Refused x)
 LinkTold room seat path turns reply.NoMemory =
     IsMissed seat turns ⊎ ((v : ℕ) × IsMiss seat path turns v note.NoMemory)
-LinkTold room seat path turns reply.Full = IsFull room turns
+LinkTold room seat path turns reply.Full = FindsNoRoom room turns
 LinkTold room seat path turns _ = ⊥
 
 -- ---- looking
@@ -142,23 +144,23 @@ LinkTold room seat path turns _ = ⊥
 abbrev pub PlacesTold : ℕ → ℕ → Name → List Turn → Answer → Type 0
 PlacesTold room seat path turns (reply.Places spans) =
     (P : List Step) × (number : ℕ) × IsTurn turns P (Looked seat number (look.Places path) ∷ [])
-    × (spans ≡ map span_of (places_of P path))
+    × (spans ≡ map wire_span (placements_of P path))
 PlacesTold room seat path turns reply.NoMemory = IsMissed seat turns
-PlacesTold room seat path turns reply.Full = IsFull room turns
+PlacesTold room seat path turns reply.Full = FindsNoRoom room turns
 PlacesTold room seat path turns _ = ⊥
 
 abbrev pub StatsTold : ℕ → ℕ → List Turn → Answer → Type 0
 StatsTold room seat turns (reply.Counts counts) =
     (P : List Step) × (number : ℕ) × IsTurn turns P (Looked seat number look.Stats ∷ [])
     × (counts ≡ counts_of P)
-StatsTold room seat turns reply.Full = IsFull room turns
+StatsTold room seat turns reply.Full = FindsNoRoom room turns
 StatsTold room seat turns _ = ⊥
 
 abbrev pub FlushTold : ℕ → ℕ → Name → List Turn → Answer → Type 0
 FlushTold room seat path turns (reply.Flushed held) =
     (P : List Step) × (number : ℕ) × (due : List Step)
     × IsTurn turns P (Flushed seat number path held ∷ due) × AllByRecursion (IsDue seat number) due
-FlushTold room seat path turns reply.Full = IsFull room turns
+FlushTold room seat path turns reply.Full = FindsNoRoom room turns
 FlushTold room seat path turns _ = ⊥
 
 -- ---- the table

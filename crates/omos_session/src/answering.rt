@@ -4,7 +4,6 @@ ghost use Rattle.std.specs.Prelude.{◌≡◌};
 ghost use Rattle.omos_wire.specs.Answer.{IsSendable};
 ghost use Rattle.omos_wire.specs.Message.{message_of};
 ghost use Rattle.omos_wire.specs.Message as message;
-ghost use Rattle.omos_session.specs.Given.{answer_in};
 ghost use Rattle.omos_session.specs.Parts.{Serves, ServesBy};
 ghost use Rattle.omos_hub.specs.Standing.{CanCross, CanTurn};
 ghost use Rattle.omos_session.specs.Talk.{FlushTold, PlacesTold, StatsTold};
@@ -18,13 +17,14 @@ use omos_base::PathName;
 use omos_wire::Request;
 use refusal_lines::Refused;
 use std::alloc::Global;
+ghost use Rattle.omos_session.specs.Given.{answer_given};
 
 fn answer_places<D: Desk>(desk: &mut D, path: &PathName) -> Given
     requires turns { CanTurn 4 (D.standing desk.old) }
     ensures serves { ServesBy D.alone (D.standing desk.old) (D.standing desk.new)
         (λ turns. let s = D.standing desk.old in
-        PlacesTold s.room s.seat path.now turns (answer_in result)) }
-    ensures short { IsSendable (answer_in result) }
+        PlacesTold s.room s.seat path.now turns (answer_given result)) }
+    ensures short { IsSendable (answer_given result) }
     ensures lenders { D.lenders desk.new ≡ D.lenders desk.old }
 {
     match desk.places(path) {
@@ -38,8 +38,8 @@ fn answer_stats<D: Desk>(desk: &mut D) -> Given
     requires turns { CanTurn 4 (D.standing desk.old) }
     ensures serves { ServesBy D.alone (D.standing desk.old) (D.standing desk.new)
         (λ turns. let s = D.standing desk.old in
-        StatsTold s.room s.seat turns (answer_in result)) }
-    ensures short { IsSendable (answer_in result) }
+        StatsTold s.room s.seat turns (answer_given result)) }
+    ensures short { IsSendable (answer_given result) }
     ensures lenders { D.lenders desk.new ≡ D.lenders desk.old }
 {
     match desk.stats() {
@@ -52,8 +52,8 @@ fn answer_flush<D: Desk>(desk: &mut D, path: &PathName) -> Given
     requires turns { CanTurn 4 (D.standing desk.old) }
     ensures serves { ServesBy D.alone (D.standing desk.old) (D.standing desk.new)
         (λ turns. let s = D.standing desk.old in
-        FlushTold s.room s.seat path.now turns (answer_in result)) }
-    ensures short { IsSendable (answer_in result) }
+        FlushTold s.room s.seat path.now turns (answer_given result)) }
+    ensures short { IsSendable (answer_given result) }
     ensures lenders { D.lenders desk.new ≡ D.lenders desk.old }
 {
     match desk.flush(path) {
@@ -66,8 +66,8 @@ fn answer_flush<D: Desk>(desk: &mut D, path: &PathName) -> Given
 fn checked_object<D: Desk>(alloc: Global, desk: &mut D, path: &[u8], file: &[u8]) -> Given
     requires turns { CanTurn 4 (D.standing desk.old) }
     ensures serves { Serves D.alone (D.standing desk.old) (D.standing desk.new)
-        (message.PutObject path.now file.now) (answer_in result) }
-    ensures short { IsSendable (answer_in result) }
+        (message.PutObject path.now file.now) (answer_given result) }
+    ensures short { IsSendable (answer_given result) }
     ensures lenders { D.lenders desk.new ≡ D.lenders desk.old }
 {
     match PathName::read(path) {
@@ -80,8 +80,8 @@ fn checked_object<D: Desk>(alloc: Global, desk: &mut D, path: &[u8], file: &[u8]
 fn checked_text<D: Desk>(alloc: Global, desk: &mut D, path: &[u8], text: &[u8]) -> Given
     requires turns { CanTurn 4 (D.standing desk.old) }
     ensures serves { Serves D.alone (D.standing desk.old) (D.standing desk.new)
-        (message.PutBlueprint path.now text.now) (answer_in result) }
-    ensures short { IsSendable (answer_in result) }
+        (message.PutBlueprint path.now text.now) (answer_given result) }
+    ensures short { IsSendable (answer_given result) }
     ensures lenders { D.lenders desk.new ≡ D.lenders desk.old }
 {
     match PathName::read(path) {
@@ -95,8 +95,8 @@ fn checked_link<D: Desk>(alloc: Global, desk: &mut D, path: &[u8]) -> Given
     requires turns { CanTurn 4 (D.standing desk.old) }
     requires gate { CanCross 1 (D.standing desk.old).crossed }
     ensures serves { Serves D.alone (D.standing desk.old) (D.standing desk.new)
-        (message.Link path.now) (answer_in result) }
-    ensures short { IsSendable (answer_in result) }
+        (message.Link path.now) (answer_given result) }
+    ensures short { IsSendable (answer_given result) }
     ensures lenders { D.lenders desk.new ≡ D.lenders desk.old }
 {
     match PathName::read(path) {
@@ -109,8 +109,8 @@ fn checked_link<D: Desk>(alloc: Global, desk: &mut D, path: &[u8]) -> Given
 fn checked_places<D: Desk>(desk: &mut D, path: &[u8]) -> Given
     requires turns { CanTurn 4 (D.standing desk.old) }
     ensures serves { Serves D.alone (D.standing desk.old) (D.standing desk.new)
-        (message.Places path.now) (answer_in result) }
-    ensures short { IsSendable (answer_in result) }
+        (message.Places path.now) (answer_given result) }
+    ensures short { IsSendable (answer_given result) }
     ensures lenders { D.lenders desk.new ≡ D.lenders desk.old }
 {
     match PathName::read(path) {
@@ -123,8 +123,8 @@ fn checked_places<D: Desk>(desk: &mut D, path: &[u8]) -> Given
 fn checked_flush<D: Desk>(desk: &mut D, path: &[u8]) -> Given
     requires turns { CanTurn 4 (D.standing desk.old) }
     ensures serves { Serves D.alone (D.standing desk.old) (D.standing desk.new)
-        (message.Flush path.now) (answer_in result) }
-    ensures short { IsSendable (answer_in result) }
+        (message.Flush path.now) (answer_given result) }
+    ensures short { IsSendable (answer_given result) }
     ensures lenders { D.lenders desk.new ≡ D.lenders desk.old }
 {
     match PathName::read(path) {
@@ -140,8 +140,8 @@ pub(crate) fn answer<D: Desk>(alloc: Global, desk: &mut D, request: Request<'_>)
     requires turns { CanTurn 4 (D.standing desk.old) }
     requires gate { CanCross 1 (D.standing desk.old).crossed }
     ensures serves { Serves D.alone (D.standing desk.old) (D.standing desk.new)
-        (message_of request.entry) (answer_in result) }
-    ensures short { IsSendable (answer_in result) }
+        (message_of request.entry) (answer_given result) }
+    ensures short { IsSendable (answer_given result) }
     ensures lenders { D.lenders desk.new ≡ D.lenders desk.old }
 {
     match request {

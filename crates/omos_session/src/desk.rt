@@ -6,8 +6,9 @@ ghost use Rattle.history_book.specs.Told.{is_placed};
 ghost use Rattle.hub_store.specs.Links.{MayFinish};
 ghost use Rattle.hub_store.specs.Parts.{IsTicket};
 ghost use Rattle.omos_hub.specs.Standing.{CanCross, CanTurn, Standing};
-ghost use Rattle.omos_hub.specs.Calls.{Asks, Counts, Crosses, Finishes, Flushes, Lists, Misses};
-ghost use Rattle.omos_hub.specs.Calls.{PlacesAt, Plans, Publishes};
+ghost use Rattle.omos_hub.specs.Calls.{Asks, Crosses, Finishes, Flushes, Lists, Misses};
+ghost use Rattle.omos_hub.specs.Calls.{PlacesAt, Publishes};
+ghost use Rattle.omos_hub.specs.Calls.{CountsAtTurn, PlansTicket};
 
 use hub_store::{
     AskReply, FlushReply, Noted, Outcome, PlaceReply, PlacesReply, StatsReply, Ticket,
@@ -61,7 +62,7 @@ pub trait Desk {
         requires seat { ticket.now.seat ≡ (standing self.old).seat }
         requires ticket { IsTicket (standing self.old).steps ticket.now }
         requires unplaced { is_placed (standing self.old).steps ticket.now.number ≡ false }
-        requires planned { Plans ticket.now planned.now }
+        requires planned { PlansTicket ticket.now planned.now }
         ensures turn { PlacesAt alone (standing self.old) (standing self.new)
             ticket.now planned.now result }
         ensures lenders { lenders self.new ≡ lenders self.old };
@@ -90,6 +91,6 @@ pub trait Desk {
     /// The counts.
     fn stats(&mut self) -> StatsReply
         requires turn { CanTurn 1 (standing self.old) }
-        ensures turn { Counts alone (standing self.old) (standing self.new) result }
+        ensures turn { CountsAtTurn alone (standing self.old) (standing self.new) result }
         ensures lenders { lenders self.new ≡ lenders self.old };
 }

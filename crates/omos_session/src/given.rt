@@ -2,7 +2,6 @@
 
 ghost use Rattle.std.specs.Prelude.{◌≡◌};
 ghost use Rattle.omos_wire.specs.Answer.{answer_of};
-ghost use Rattle.omos_session.specs.Given.{answer_in};
 
 use hub_store::Counts;
 use link_model::Linked;
@@ -10,6 +9,7 @@ use omos_base::{Row, Shared};
 use omos_model::Placement;
 use omos_wire::Reply;
 use refusal_lines::Refused;
+ghost use Rattle.omos_session.specs.Given.{answer_given};
 
 /// A reply that owns what it holds; an image is shared with the cache.
 #[derive(Drop)]
@@ -28,7 +28,7 @@ pub(crate) enum Given {
 
 impl Given {
     pub(crate) fn reply(&self) -> Reply<'_>
-        ensures { answer_of result ≡ answer_in self.now }
+        ensures { answer_of result ≡ answer_given self.now }
     {
         match self {
             Given::Published(version) => Reply::Published(*version),

@@ -1,7 +1,8 @@
 //! Laws of turns, each the contract of a function that does nothing.
 
-ghost use Rattle.omos_session.specs.Laws.{AloneLaw, ClimbLaw, CompleteLaw, FewLaw, FrontLaw};
+ghost use Rattle.omos_session.specs.Laws.{AloneLaw, ClimbLaw, CompleteLaw, FewLaw};
 ghost use Rattle.omos_session.specs.Laws.{MissLaw, OwnLaw};
+ghost use Rattle.omos_session.specs.Laws.{TurnsStayLaw};
 
 /// The lengths that the record had at a seat's turns never fall, and lie between its length before
 /// and after.
@@ -16,7 +17,7 @@ pub fn turns_own_their_steps()
 
 /// What a turn left stays the front of the record.
 pub fn records_only_grow()
-    ensures { FrontLaw }
+    ensures { TurnsStayLaw }
 {}
 
 /// Where nobody else adds, the record is the old one and the steps of the turns.

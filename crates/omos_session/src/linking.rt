@@ -6,8 +6,6 @@ ghost use Rattle.link_model.specs.Answer.{answer};
 ghost use Rattle.hub_store.specs.Links.{MayFinish};
 ghost use Rattle.hub_store.specs.Parts.{IsTicket};
 ghost use Rattle.hub_store.specs.declared.reply.Outcome.TheVariants as outcome;
-ghost use Rattle.omos_hub.specs.Calls.{Plans};
-ghost use Rattle.omos_session.specs.Given.{answer_in};
 ghost use Rattle.omos_session.specs.Parts.{Concludes, Goes, IsRight, MayMake, Makes, RefusesWith};
 ghost use Rattle.omos_session.specs.Parts.{ServesBy, outcome_of};
 ghost use Rattle.omos_wire.specs.Answer.{IsSendable};
@@ -23,6 +21,8 @@ use omos_base::{Fault, PathName, Shared};
 use omos_model::Refusal;
 use refusal_lines::Refused;
 use std::alloc::Global;
+ghost use Rattle.omos_session.specs.Given.{answer_given};
+ghost use Rattle.omos_hub.specs.Calls.{PlansTicket};
 
 /// What a link request came to.
 #[derive(Drop)]
@@ -63,7 +63,7 @@ fn place<D: Desk>(alloc: Global, desk: &mut D, ticket: &Ticket, planned: &Planne
     requires seat { ticket.now.seat ≡ (D.standing desk.old).seat }
     requires ticket { IsTicket (D.standing desk.old).steps ticket.now }
     requires unplaced { is_placed (D.standing desk.old).steps ticket.now.number ≡ false }
-    requires planned { Plans ticket.now planned.now }
+    requires planned { PlansTicket ticket.now planned.now }
     ensures made { Makes D.alone (D.standing desk.old) (D.standing desk.new) ticket.now result }
     ensures lenders { D.lenders desk.new ≡ D.lenders desk.old }
 {
@@ -105,8 +105,8 @@ fn conclude_image<D: Desk>(desk: &mut D, ticket: Ticket, image: Shared<Linked>) 
     requires may { MayFinish (D.standing desk.old).steps ticket (outcome.Image image) }
     requires right { answer ticket.space ticket.path image.base ≡ Ok image.bytes }
     ensures concluded { Concludes D.alone (D.standing desk.old) (D.standing desk.new)
-        ticket (answer_in result) }
-    ensures short { IsSendable (answer_in result) }
+        ticket (answer_given result) }
+    ensures short { IsSendable (answer_given result) }
     ensures lenders { D.lenders desk.new ≡ D.lenders desk.old }
 {
     let version = ticket.version();
@@ -129,7 +129,7 @@ fn conclude_refused<D: Desk>(desk: &mut D, ticket: Ticket, refusal: Shared<Refus
     requires ticket { IsTicket (D.standing desk.old).steps ticket }
     requires may { MayFinish (D.standing desk.old).steps ticket (outcome.Refused refusal) }
     ensures concluded { Concludes D.alone (D.standing desk.old) (D.standing desk.new)
-        ticket (answer_in result) }
+        ticket (answer_given result) }
     ensures lenders { D.lenders desk.new ≡ D.lenders desk.old }
 {
     match refusal.twin() {
@@ -151,8 +151,8 @@ fn conclude<D: Desk>(desk: &mut D, ticket: Ticket, made: Made) -> Given
     requires may { MayFinish (D.standing desk.old).steps ticket (outcome_of made) }
     requires right { IsRight ticket made }
     ensures concluded { Concludes D.alone (D.standing desk.old) (D.standing desk.new)
-        ticket (answer_in result) }
-    ensures short { IsSendable (answer_in result) }
+        ticket (answer_given result) }
+    ensures short { IsSendable (answer_given result) }
     ensures lenders { D.lenders desk.new ≡ D.lenders desk.old }
 {
     match made {
@@ -173,8 +173,8 @@ fn go<D: Desk>(alloc: Global, desk: &mut D, ticket: Ticket) -> Given
     requires ticket { IsTicket (D.standing desk.old).steps ticket }
     requires unplaced { is_placed (D.standing desk.old).steps ticket.number ≡ false }
     ensures gone { Goes D.alone (D.standing desk.old) (D.standing desk.new)
-        ticket (answer_in result) }
-    ensures short { IsSendable (answer_in result) }
+        ticket (answer_given result) }
+    ensures short { IsSendable (answer_given result) }
     ensures lenders { D.lenders desk.new ≡ D.lenders desk.old }
 {
     desk.cross(ticket.number());
@@ -188,8 +188,8 @@ pub(crate) fn answer_link<D: Desk>(alloc: Global, desk: &mut D, path: &PathName)
     requires gate { CanCross 1 (D.standing desk.old).crossed }
     ensures serves { ServesBy D.alone (D.standing desk.old) (D.standing desk.new)
         (λ turns. let s = D.standing desk.old in
-        LinkTold s.room s.seat path.now turns (answer_in result)) }
-    ensures short { IsSendable (answer_in result) }
+        LinkTold s.room s.seat path.now turns (answer_given result)) }
+    ensures short { IsSendable (answer_given result) }
     ensures lenders { D.lenders desk.new ≡ D.lenders desk.old }
 {
     match desk.ask(path) {

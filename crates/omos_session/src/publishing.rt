@@ -2,7 +2,6 @@
 
 ghost use Rattle.std.specs.Prelude.{◌≡◌, ◌*◌, ◌≤◌, length};
 ghost use Rattle.omos_wire.specs.Answer.{IsSendable};
-ghost use Rattle.omos_session.specs.Given.{answer_in};
 ghost use Rattle.omos_session.specs.Parts.{MissTold, PublishTold, ServesBy};
 ghost use Rattle.omos_hub.specs.Standing.{CanTurn};
 ghost use Rattle.omos_session.specs.Talk.{FaultsObject, FaultsText, PutTold, SaysObject, SaysText};
@@ -16,14 +15,15 @@ use omos_base::{Fault, PathName, Shared};
 use omos_model::{Entry, Image};
 use refusal_lines::Refused;
 use std::alloc::Global;
+ghost use Rattle.omos_session.specs.Given.{answer_given};
 
 /// Records that a put found no memory.
 fn miss<D: Desk>(desk: &mut D) -> Given
     requires turns { CanTurn 4 (D.standing desk.old) }
     ensures serves { ServesBy D.alone (D.standing desk.old) (D.standing desk.new)
         (λ turns. let s = D.standing desk.old in
-        MissTold s.room s.seat turns (answer_in result)) }
-    ensures short { IsSendable (answer_in result) }
+        MissTold s.room s.seat turns (answer_given result)) }
+    ensures short { IsSendable (answer_given result) }
     ensures lenders { D.lenders desk.new ≡ D.lenders desk.old }
 {
     match desk.missed() {
@@ -38,8 +38,8 @@ fn publish<D: Desk>(alloc: Global, desk: &mut D, path: &PathName, entry: Entry, 
     requires size { size ≤ 1048576 }
     ensures serves { ServesBy D.alone (D.standing desk.old) (D.standing desk.new)
         (λ turns. let s = D.standing desk.old in
-        PublishTold s.room s.seat path.now entry size turns (answer_in result)) }
-    ensures short { IsSendable (answer_in result) }
+        PublishTold s.room s.seat path.now entry size turns (answer_given result)) }
+    ensures short { IsSendable (answer_given result) }
     ensures lenders { D.lenders desk.new ≡ D.lenders desk.old }
 {
     let Ok(entry) = Shared::of(alloc, entry) else {
@@ -64,8 +64,8 @@ pub(crate) fn put_object<D: Desk>(
     ensures serves { ServesBy D.alone (D.standing desk.old) (D.standing desk.new)
         (λ turns. let s = D.standing desk.old in
         PutTold (SaysObject file.now) (FaultsObject file.now)
-        s.room s.seat path.now turns (answer_in result)) }
-    ensures short { IsSendable (answer_in result) }
+        s.room s.seat path.now turns (answer_given result)) }
+    ensures short { IsSendable (answer_given result) }
     ensures lenders { D.lenders desk.new ≡ D.lenders desk.old }
 {
     match fragment(alloc, file) {
@@ -94,8 +94,8 @@ fn publish_image<D: Desk>(
     ensures serves { ServesBy D.alone (D.standing desk.old) (D.standing desk.new)
         (λ turns. let s = D.standing desk.old in
         PublishTold s.room s.seat path.now (Entry.Blueprint image) (16 * length text.now)
-        turns (answer_in result)) }
-    ensures short { IsSendable (answer_in result) }
+        turns (answer_given result)) }
+    ensures short { IsSendable (answer_given result) }
     ensures lenders { D.lenders desk.new ≡ D.lenders desk.old }
 {
     let size = 16 * text.len() as u32;
@@ -108,8 +108,8 @@ pub(crate) fn put_text<D: Desk>(alloc: Global, desk: &mut D, path: &PathName, te
     ensures serves { ServesBy D.alone (D.standing desk.old) (D.standing desk.new)
         (λ turns. let s = D.standing desk.old in
         PutTold (SaysText text.now) (FaultsText text.now)
-        s.room s.seat path.now turns (answer_in result)) }
-    ensures short { IsSendable (answer_in result) }
+        s.room s.seat path.now turns (answer_given result)) }
+    ensures short { IsSendable (answer_given result) }
     ensures lenders { D.lenders desk.new ≡ D.lenders desk.old }
 {
     match parse(alloc, text) {

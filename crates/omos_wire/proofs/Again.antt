@@ -10,7 +10,8 @@ use Rattle.omos_base.specs.Fields.{number_at}
 use Rattle.std.proofs.Common.{◌⊎◌, inl, inr}
 use Rattle.std.specs.List.{AllByRecursion, flat_map}
 use Rattle.omos_wire.specs.declared.request.FrameCause.{FrameCause}
-use Rattle.omos_wire.specs.Message.{Message, PutObject, PutBlueprint, Link, Places, Stats, Flush, End, body, frame, Fits}
+use Rattle.omos_wire.specs.Message.{Message, PutObject, PutBlueprint, Link, Places, Stats, Flush, End, body, frame}
+use Rattle.omos_wire.specs.Message.{HasFrame}
 use Rattle.omos_wire.specs.Fielded.{field}
 use Rattle.omos_wire.specs.Stream.{Cut, Rest, Waiting, Stuck}
 use Rattle.omos_wire.specs.Sight.{Whole, Short, Bad, message, sight, with_size, with_kind, with_path}
@@ -82,7 +83,7 @@ path_again k P R rest m is same short most not0 not5 kinds none =
     ∙ path_seen _ _ _ _ k _ _ P R rest size (little_number-reads_back 4 size (k ∷ (little_bytes 2 (length P) ++ ((P ++ R) ++ rest))) (omega arith)) (little_number-reads_back 2 (length P) ((P ++ R) ++ rest) (omega arith)) refl small not0 not5 kinds none
     ∙ ap (λ (x : Message). Whole x (4 + size)) is ∙ ap (Whole m) (omega (arith, ap length fr, long))
 
-pub sight_frame : (m : Message) (rest : List ℕ) → Fits m → sight (frame m ++ rest) ≡ Whole m (length (frame m))
+pub sight_frame : (m : Message) (rest : List ℕ) → HasFrame m → sight (frame m ++ rest) ≡ Whole m (length (frame m))
 unfolding frame with_kind number_at
 sight_frame (PutObject path object) rest fits = path_again 1 path object rest (PutObject path object) refl refl fits.path fits.size (λ e. cc) (λ e. cc) (omega arith) (λ h. absurd (omega arith))
 sight_frame (PutBlueprint path text) rest fits = path_again 2 path text rest (PutBlueprint path text) refl refl fits.path fits.size (λ e. cc) (λ e. cc) (omega arith) (λ h. absurd (omega arith))
@@ -97,13 +98,13 @@ sight_frame End rest fits =
     sight_yes bytes (omega arith) ∙ with_size_yes 1 bytes (λ e. cc) (omega arith) (omega arith)
 
 -- Two readings of one stream are one: the same frames, and the same rest.
-frame_apart : (m : Message) (rest tail : List ℕ) → Fits m → sight tail ≡ Short ⊎ ((x : FrameCause) × (sight tail ≡ Bad x)) → tail ≡ frame m ++ rest → ⊥
+frame_apart : (m : Message) (rest tail : List ℕ) → HasFrame m → sight tail ≡ Short ⊎ ((x : FrameCause) × (sight tail ≡ Bad x)) → tail ≡ frame m ++ rest → ⊥
 frame_apart m rest tail fits (inl short) e = let seen : sight tail ≡ Whole m (length (frame m)) = ap sight e ∙ sight_frame m rest fits in absurd (cc)
 frame_apart m rest tail fits (inr bad) e =
     let seen : sight tail ≡ Whole m (length (frame m)) = ap sight e ∙ sight_frame m rest fits in
     let wrong : sight tail ≡ Bad bad.0 = bad.1 in absurd (cc)
 
-pub same_first : (m n : Message) (xs ys : List ℕ) → Fits m → Fits n → frame m ++ xs ≡ frame n ++ ys → (m ≡ n) × (xs ≡ ys)
+pub same_first : (m n : Message) (xs ys : List ℕ) → HasFrame m → HasFrame n → frame m ++ xs ≡ frame n ++ ys → (m ≡ n) × (xs ≡ ys)
 same_first m n xs ys fits fits' e =
     let seen : Whole m (length (frame m)) ≡ Whole n (length (frame n)) = sym (sight_frame m xs fits) ∙ ap sight e ∙ sight_frame n ys fits' in
     let same : m ≡ n = cc in
@@ -114,7 +115,7 @@ same_first m n xs ys fits fits' e =
 abbrev pub IsDone : List ℕ → Type 0
 IsDone tail = (sight tail ≡ Short) ⊎ ((x : FrameCause) × (sight tail ≡ Bad x))
 
-pub starts_only : (stream xs ys : List ℕ) (fs gs : List Message) → AllByRecursion Fits fs → AllByRecursion Fits gs → IsDone xs → IsDone ys
+pub starts_only : (stream xs ys : List ℕ) (fs gs : List Message) → AllByRecursion HasFrame fs → AllByRecursion HasFrame gs → IsDone xs → IsDone ys
     → stream ≡ flat_map frame fs ++ xs → stream ≡ flat_map frame gs ++ ys → (fs ≡ gs) × (xs ≡ ys)
 starts_only stream xs ys [] [] a b p q d e = (refl, sym d ∙ e)
 starts_only stream xs ys [] (g ∷ gs) a b p q d e = absurd (frame_apart g (flat_map frame gs ++ ys) xs b.0 p (sym d ∙ e ∙ append_assoc (frame g) (flat_map frame gs) ys))
@@ -145,7 +146,7 @@ cut_only stream fs gs (Stuck p c) (Waiting n) a b =
     let bad : Bad c ≡ Short = sym a.ends.0 ∙ ap sight s.1 ∙ b.ends.0 in absurd (cc)
 
 -- no frame begins another
-pub apart : (m n : Message) (rest : List ℕ) → Fits m → Fits n → frame n ≡ frame m ++ rest
+pub apart : (m n : Message) (rest : List ℕ) → HasFrame m → HasFrame n → frame n ≡ frame m ++ rest
     → (n ≡ m) × (rest ≡ [])
 apart m n rest fits fits' e =
     let one = same_first m n rest [] fits fits' (sym e ∙ sym (append-nil (frame n))) in

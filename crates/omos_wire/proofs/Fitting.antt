@@ -21,7 +21,8 @@ use Rattle.refusal_lines.specs.Codes.{IsField}
 use Rattle.omos_wire.specs.Fielded.{field_bytes}
 use Rattle.refusal_lines.specs.Codes.{Field, Number, Wide, Path, Symbol, link_row, object_row, path_row, row_of, text_row}
 use Rattle.omos_wire.specs.Fielded.{field}
-use Rattle.omos_wire.specs.Reading.{FitsAny, FitsCode, FitsForms, FitsShape, IsReply, IsText, form_of, link_forms, object_forms, path_forms, shape_at, text_forms, text_size}
+use Rattle.omos_wire.specs.Reading.{FitsAny, FitsCode, FitsForms, FitsShape, IsReply, form_of, link_forms, object_forms, path_forms, shape_at, text_forms, text_size}
+use Rattle.omos_wire.specs.Reading.{IsTextField}
 use Rattle.refusal_lines.specs.declared.refused.Refused.{Refused as Reason}
 use Rattle.refusal_lines.specs.declared.refused.Refused.TheVariants as code
 use Rattle.omos_wire.specs.declared.span.Span.{Span}
@@ -56,7 +57,7 @@ text_behind s rest short =
     ∙ ap (λ (n : ℕ). drop n (field s ++ rest)) whole ∙ drop-append_seam (field s) rest
 
 fits_text : (Is Rest : List ℕ → Type 0) (s rest : List ℕ) → length s < 2 ^ 16 → Is s → Rest rest
-    → IsText Is Rest (field s ++ rest)
+    → IsTextField Is Rest (field s ++ rest)
 unfolding number_at
 fits_text Is Rest s rest short is more =
     let size : text_size (field s ++ rest) ≡ length s =

@@ -6,12 +6,13 @@ use Rattle.std.proofs.lemmas.Bool.{or_parts, eqb-false}
 use Rattle.omos_base.specs.Endian.{little_bytes, little_number}
 use Rattle.omos_base.specs.Fields.{number_at}
 use Rattle.omos_wire.specs.declared.request.FrameCause.TheVariants as cause
-use Rattle.omos_wire.specs.Message.{Message, Stats, End, body, frame, path_in, Fits}
+use Rattle.omos_wire.specs.Message.{Message, Stats, End, body, frame}
 use Rattle.omos_wire.specs.Fielded.{field}
 use Rattle.omos_wire.specs.Sight.{Whole, Short, Bad, message, sight, with_size, with_kind, with_path}
 use Rattle.omos_wire.specs.Found.{IsFramed, Sees}
 use Rattle.omos_wire.specs.Sight.{sight_of}
 use Rattle.omos_wire.specs.Message.{message_of}
+use Rattle.omos_wire.specs.Message.{HasFrame, path_of_message}
 use Rattle.omos_wire.specs.declared.look.Look.{Look}
 use Rattle.omos_wire.specs.declared.look.Look.TheVariants as look
 use Rattle.omos_wire.proofs.Numbers.{IsBytes, little_two, little_four}
@@ -30,7 +31,7 @@ body_of (suc (suc (suc (suc (suc zero))))) path rest a b c d = absurd (b refl)
 body_of (suc (suc (suc (suc (suc (suc zero)))))) path rest a b c d = rw (d (omega arith), append-nil path) refl
 body_of (suc (suc (suc (suc (suc (suc (suc k))))))) path rest a b c d = absurd (omega arith)
 
-path_of : (kind : ℕ) (path rest : List ℕ) → (kind ≡ 0 → ⊥) → (kind ≡ 5 → ⊥) → kind < 7 → path_in (message kind path rest) ≡ path
+path_of : (kind : ℕ) (path rest : List ℕ) → (kind ≡ 0 → ⊥) → (kind ≡ 5 → ⊥) → kind < 7 → path_of_message (message kind path rest) ≡ path
 path_of zero path rest a b c = absurd (a refl)
 path_of (suc zero) path rest a b c = refl
 path_of (suc (suc zero)) path rest a b c = refl
@@ -54,7 +55,7 @@ framed : (a b c d k e f : ℕ) (tail P R after : List ℕ) (size n : ℕ)
     → little_bytes 4 size ≡ a ∷ b ∷ c ∷ d ∷ [] → little_bytes 2 (length P) ≡ e ∷ f ∷ []
     → tail ≡ P ++ (R ++ after) → size ≡ 3 + length P + length R → size ≤ 2097152 → length P < 2 ^ 16
     → (k ≡ 0 → ⊥) → (k ≡ 5 → ⊥) → k < 7 → (2 < k → R ≡ [])
-    → (a ∷ b ∷ c ∷ d ∷ k ∷ e ∷ f ∷ tail ≡ frame (message k P R) ++ after) × (4 + size ≡ length (frame (message k P R))) × Fits (message k P R)
+    → (a ∷ b ∷ c ∷ d ∷ k ∷ e ∷ f ∷ tail ≡ frame (message k P R) ++ after) × (4 + size ≡ length (frame (message k P R))) × HasFrame (message k P R)
 unfolding frame
 framed a b c d k e f tail P R after size n four two cut sum most short not0 not5 kinds none =
     let M = message k P R in
@@ -117,7 +118,7 @@ with_path_frame (a ∷ b ∷ c ∷ d ∷ k ∷ e ∷ f ∷ tail) m n ok seven mo
 with_path_frame _ m n ok seven most not0 not5 kinds h = absurd (omega arith)
 
 plain_frame : (bytes : List ℕ) (m : Message) (kind : ℕ) → IsBytes bytes → 5 ≤ length bytes → number_at 4 0 bytes ≡ 1
-    → slice_index bytes 4 ≡ kind → body m ≡ kind ∷ [] → path_in m ≡ [] → IsFramed bytes m 5
+    → slice_index bytes 4 ≡ kind → body m ≡ kind ∷ [] → path_of_message m ≡ [] → IsFramed bytes m 5
 unfolding frame number_at
 plain_frame (a ∷ b ∷ c ∷ d ∷ k ∷ tail) m kind ok five one is same none =
     let fr : frame m ≡ a ∷ b ∷ c ∷ d ∷ k ∷ [] =

@@ -18,7 +18,8 @@ use Rattle.omos_model.specs.declared.refusal.Site.{Site}
 use Rattle.refusal_lines.specs.Codes.{Field, Number, Wide, Path, Symbol, link_row, object_row, path_row, row_of, text_row}
 use Rattle.refusal_lines.specs.declared.refused.Refused.{Refused as Reason}
 use Rattle.refusal_lines.specs.declared.refused.Refused.TheVariants as code
-use Rattle.omos_wire.specs.Answer.{Answer, HasValues, IsReplyFrame, IsSpan, Published, Image, Refused, Places, Counts, Flushed, Bye, NoMemory, Full, KeptFull, flag, payload, reply_frame, span_bytes}
+use Rattle.omos_wire.specs.Answer.{Answer, HasValues, IsReplyFrame, Published, Image, Refused, Places, Counts, Flushed, Bye, NoMemory, Full, KeptFull, flag, payload, reply_frame, span_bytes}
+use Rattle.omos_wire.specs.Answer.{IsCodedSpan}
 use Rattle.refusal_lines.specs.Codes.{IsField}
 use Rattle.omos_wire.specs.Fielded.{field, field_bytes}
 use Rattle.omos_wire.specs.Reading.{Form, form_of, link_forms, object_forms, path_forms, text_forms, text_size}
@@ -195,7 +196,7 @@ spans_in zero bytes = []
 spans_in (suc n) bytes =
     (record { base = number_at 8 0 bytes; pages = number_at 4 0 (drop 8 bytes) }) ∷ spans_in n (drop 12 bytes)
 
-spans_back : (ss : List Span) → AllByRecursion IsSpan ss → spans_in (length ss) (flat_map span_bytes ss) ≡ ss
+spans_back : (ss : List Span) → AllByRecursion IsCodedSpan ss → spans_in (length ss) (flat_map span_bytes ss) ≡ ss
 spans_back [] h = refl
 spans_back (s ∷ ss) h =
     let rest : List ℕ = flat_map span_bytes ss in

@@ -26,14 +26,14 @@ pub data Answer : Type 0 where
   KeptFull : Answer
 
 -- a placement without its path
-abbrev pub span_of : Placement → Span
-span_of p = record { base = p.base; pages = p.pages }
+abbrev pub wire_span : Placement → Span
+wire_span p = record { base = p.base; pages = p.pages }
 
 abbrev pub answer_of : Reply → Answer
 answer_of (code.Published version) = Published version
 answer_of (code.Image version base bytes) = Image version base bytes.now
 answer_of (code.Refused x) = Refused x.now
-answer_of (code.Places placements) = Places (map span_of placements.now)
+answer_of (code.Places placements) = Places (map wire_span placements.now)
 answer_of (code.Counts counts) = Counts counts
 answer_of (code.Flushed held) = Flushed held
 answer_of code.Bye = Bye
@@ -47,8 +47,8 @@ abbrev pub span_bytes : Span → List ℕ
 span_bytes s = little_bytes 8 s.base ++ little_bytes 4 s.pages
 
 -- the nine counts, in the order in which the frame has them
-abbrev pub counted : Totals → List ℕ
-counted n =
+abbrev pub nine_counts : Totals → List ℕ
+nine_counts n =
     n.version ∷ n.paths ∷ n.placements ∷ n.asked ∷ n.hits ∷ n.stored ∷ n.evicted ∷ n.held
     ∷ n.steps ∷ []
 
@@ -63,7 +63,7 @@ payload (Published version) = 129 ∷ little_bytes 8 version
 payload (Image version base bytes) = 130 ∷ little_bytes 8 version ++ little_bytes 8 base ++ bytes
 payload (Refused x) = 131 ∷ coded_bytes (row_of x)
 payload (Places spans) = 132 ∷ little_bytes 4 (length spans) ++ flat_map span_bytes spans
-payload (Counts counts) = 133 ∷ flat_map (little_bytes 8) (counted counts)
+payload (Counts counts) = 133 ∷ flat_map (little_bytes 8) (nine_counts counts)
 payload (Flushed held) = 134 ∷ flag held ∷ []
 payload Bye = 135 ∷ []
 payload NoMemory = 136 ∷ []
@@ -77,15 +77,15 @@ reply_frame a = little_bytes 4 (length (payload a)) ++ payload a
 -- ---- what a frame can hold
 
 -- a number has its bytes
-abbrev pub IsSpan : Span → Type 0
-IsSpan s = (s.base < 2 ^ 64) × (s.pages < 2 ^ 32)
+abbrev pub IsCodedSpan : Span → Type 0
+IsCodedSpan s = (s.base < 2 ^ 64) × (s.pages < 2 ^ 32)
 
 abbrev pub HasValues : Answer → Type 0
 HasValues (Published version) = version < 2 ^ 64
 HasValues (Image version base bytes) = (version < 2 ^ 64) × (base < 2 ^ 64)
 HasValues (Refused x) = AllByRecursion IsField (row_of x).fields
-HasValues (Places spans) = AllByRecursion IsSpan spans
-HasValues (Counts counts) = AllByRecursion (λ n. n < 2 ^ 64) (counted counts)
+HasValues (Places spans) = AllByRecursion IsCodedSpan spans
+HasValues (Counts counts) = AllByRecursion (λ n. n < 2 ^ 64) (nine_counts counts)
 HasValues (Flushed held) = Unit {0}
 HasValues Bye = Unit {0}
 HasValues NoMemory = Unit {0}
@@ -109,5 +109,5 @@ pub record IsReplyFrame (bytes : List ℕ) (a : Answer) : Type 0 where
   pub values : HasValues a
 
 -- its own frame is one that it is read back from
-abbrev pub IsReadable : Answer → Type 0
-IsReadable a = IsReplyFrame (reply_frame a) a
+abbrev pub IsReadBack : Answer → Type 0
+IsReadBack a = IsReplyFrame (reply_frame a) a

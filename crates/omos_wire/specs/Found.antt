@@ -1,6 +1,7 @@
 -- What a decoder has next.
 use Rattle.std.specs.Prelude.{◌≡◌, ℕ, ◌+◌, ◌<◌, List, ◌++◌, length, drop}
-use Rattle.omos_wire.specs.Message.{Message, message_of, frame, Fits}
+use Rattle.omos_wire.specs.Message.{Message, message_of, frame}
+use Rattle.omos_wire.specs.Message.{HasFrame}
 use Rattle.omos_wire.specs.Sight.{Short, Bad, sight}
 use Rattle.omos_wire.specs.Stream.{Held}
 use Rattle.omos_wire.specs.declared.look.Look.{Look}
@@ -12,7 +13,7 @@ use Rattle.omos_wire.specs.declared.decoder.Found.TheVariants as code
 pub record IsFramed (bytes : List ℕ) (m : Message) (n : ℕ) : Type 0 where
   pub split : bytes ≡ frame m ++ drop n bytes
   pub size : n ≡ length (frame m)
-  pub fits : Fits m
+  pub fits : HasFrame m
 
 -- what was seen at the front of the bytes
 abbrev pub Sees : Look → List ℕ → Type 0
@@ -24,7 +25,7 @@ Sees (look.Bad cause) bytes = sight bytes ≡ Bad cause
 pub record Took (old : Held) (m : Message) (new : Held) : Type 0 where
   pub bytes : old.waiting ≡ frame m ++ new.waiting
   pub place : new.place ≡ old.place + length (frame m)
-  pub fits : Fits m
+  pub fits : HasFrame m
 
 -- a request is handed out with its bytes; else nothing changes, and no frame begins, or not enough
 -- of one

@@ -17,14 +17,14 @@ bulk Full = []
 bulk KeptFull = []
 
 -- of a fixed width, but for an image's file
-abbrev pub IsSmall : Answer → Type 0
-IsSmall (Refused x) = ⊥
-IsSmall (Image version base bytes) = Unit {0}
-IsSmall (Places spans) = ⊥
-IsSmall (Published version) = Unit {0}
-IsSmall (Counts counts) = Unit {0}
-IsSmall (Flushed held) = Unit {0}
-IsSmall Bye = Unit {0}
-IsSmall NoMemory = Unit {0}
-IsSmall Full = Unit {0}
-IsSmall KeptFull = Unit {0}
+abbrev pub HasFixedWidth : Answer → Type 0
+HasFixedWidth (Refused x) = ⊥
+HasFixedWidth (Image version base bytes) = Unit {0}
+HasFixedWidth (Places spans) = ⊥
+HasFixedWidth (Published version) = Unit {0}
+HasFixedWidth (Counts counts) = Unit {0}
+HasFixedWidth (Flushed held) = Unit {0}
+HasFixedWidth Bye = Unit {0}
+HasFixedWidth NoMemory = Unit {0}
+HasFixedWidth Full = Unit {0}
+HasFixedWidth KeptFull = Unit {0}

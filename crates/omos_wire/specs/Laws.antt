@@ -1,7 +1,8 @@
 -- Laws of frames and streams.
 use Rattle.std.specs.Prelude.{◌≡◌, ℕ, List, [], ◌++◌, length}
 use Rattle.omos_wire.specs.Answer.{Answer, IsReplyFrame}
-use Rattle.omos_wire.specs.Message.{Message, Fits, frame}
+use Rattle.omos_wire.specs.Message.{Message, frame}
+use Rattle.omos_wire.specs.Message.{HasFrame}
 use Rattle.omos_wire.specs.Sight.{Whole, Bad, sight}
 use Rattle.omos_wire.specs.Stream.{Cut, Rest}
 use Rattle.omos_wire.specs.declared.request.FrameCause.{FrameCause}
@@ -9,11 +10,11 @@ use Rattle.omos_wire.specs.declared.request.FrameCause.{FrameCause}
 -- a frame is seen as that of its request, whatever follows it
 abbrev pub SeenLaw : Type 0
 SeenLaw =
-    (m : Message) (rest : List ℕ) → Fits m → sight (frame m ++ rest) ≡ Whole m (length (frame m))
+    (m : Message) (rest : List ℕ) → HasFrame m → sight (frame m ++ rest) ≡ Whole m (length (frame m))
 
 -- a stream has one list of frames and one rest
-abbrev pub CutLaw : Type 0
-CutLaw =
+abbrev pub OneCutLaw : Type 0
+OneCutLaw =
     (stream : List ℕ) (fs gs : List Message) (r q : Rest) → Cut stream fs r → Cut stream gs q
     → (fs ≡ gs) × (r ≡ q)
 
@@ -25,7 +26,7 @@ BadLaw =
 -- no frame begins another
 abbrev pub ApartLaw : Type 0
 ApartLaw =
-    (m n : Message) (rest : List ℕ) → Fits m → Fits n → frame n ≡ frame m ++ rest
+    (m n : Message) (rest : List ℕ) → HasFrame m → HasFrame n → frame n ≡ frame m ++ rest
     → (n ≡ m) × (rest ≡ [])
 
 -- a frame is of one reply, so the reply that is read from it is the one that it was written for

@@ -38,20 +38,20 @@ body End = 7 ∷ []
 unfoldable pub frame : Message → List ℕ
 frame m = little_bytes 4 (length (body m)) ++ body m
 
-abbrev pub path_in : Message → List ℕ
-path_in (PutObject path object) = path
-path_in (PutBlueprint path text) = path
-path_in (Link path) = path
-path_in (Places path) = path
-path_in Stats = []
-path_in (Flush path) = path
-path_in End = []
+abbrev pub path_of_message : Message → List ℕ
+path_of_message (PutObject path object) = path
+path_of_message (PutBlueprint path text) = path
+path_of_message (Link path) = path
+path_of_message (Places path) = path
+path_of_message Stats = []
+path_of_message (Flush path) = path
+path_of_message End = []
 
 -- what has a frame
-pub record Fits (m : Message) : Type 0 where
-  pub path : length (path_in m) < 2 ^ 16
+pub record HasFrame (m : Message) : Type 0 where
+  pub path : length (path_of_message m) < 2 ^ 16
   pub size : length (body m) ≤ 2097152
 
 -- the bytes are the frame of the request
 abbrev pub IsFrame : List ℕ → Message → Type 0
-IsFrame bytes m = (bytes ≡ frame m) × Fits m
+IsFrame bytes m = (bytes ≡ frame m) × HasFrame m

@@ -26,7 +26,7 @@ abbrev pub text_size : List ℕ → ℕ
 text_size bytes = number_at 2 0 bytes
 
 -- a text of this kind stands behind its length, and what follows it is so
-pub record IsText (Is : List ℕ → Type 0) (Rest : List ℕ → Type 0) (bytes : List ℕ) : Type 0 where
+pub record IsTextField (Is : List ℕ → Type 0) (Rest : List ℕ → Type 0) (bytes : List ℕ) : Type 0 where
   pub sized : 2 ≤ length bytes
   pub there : 2 + text_size bytes ≤ length bytes
   pub text : Is (slice_range bytes 2 (2 + text_size bytes))
@@ -37,8 +37,8 @@ abbrev pub FitsForms : List Form → List ℕ → Type 0
 FitsForms [] bytes = bytes ≡ []
 FitsForms (Number ∷ forms) bytes = (4 ≤ length bytes) × FitsForms forms (drop 4 bytes)
 FitsForms (Wide ∷ forms) bytes = (8 ≤ length bytes) × FitsForms forms (drop 8 bytes)
-FitsForms (Path ∷ forms) bytes = IsText IsPath (FitsForms forms) bytes
-FitsForms (Symbol ∷ forms) bytes = IsText IsSymName (FitsForms forms) bytes
+FitsForms (Path ∷ forms) bytes = IsTextField IsPath (FitsForms forms) bytes
+FitsForms (Symbol ∷ forms) bytes = IsTextField IsSymName (FitsForms forms) bytes
 
 abbrev pub FitsAny : Option (List Form) → List ℕ → Type 0
 FitsAny None bytes = ⊥

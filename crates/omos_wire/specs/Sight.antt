@@ -22,10 +22,10 @@ sight_of (code.Bad x) = Bad x
 
 -- a whole frame has five bytes at least, and no more than there are; what is short of one has fewer
 -- than the longest
-abbrev pub IsWithin : Look → ℕ → Type 0
-IsWithin (code.Whole request size) count = (5 ≤ size) × (size ≤ count)
-IsWithin code.Short count = count < 2097156
-IsWithin (code.Bad x) count = Unit {0}
+abbrev pub IsLookWithin : Look → ℕ → Type 0
+IsLookWithin (code.Whole request size) count = (5 ≤ size) × (size ≤ count)
+IsLookWithin code.Short count = count < 2097156
+IsLookWithin (code.Bad x) count = Unit {0}
 
 -- the request of this kind; kinds 5 and 7 have no path
 abbrev pub message : ℕ → List ℕ → List ℕ → Message

@@ -2,7 +2,8 @@
 
 ghost use Rattle.std.specs.Prelude.{◌≡◌, ◌+◌, ◌<◌, ◌≤◌, ◌++◌, ◌∷◌, length, IfOk};
 ghost use Rattle.omos_base.specs.Endian.{little_bytes};
-ghost use Rattle.omos_wire.specs.Message.{Fits, frame, message_of};
+ghost use Rattle.omos_wire.specs.Message.{frame, message_of};
+ghost use Rattle.omos_wire.specs.Message.{HasFrame};
 ghost use Rattle.omos_wire.specs.Fielded.{field};
 
 use crate::request::Request;
@@ -33,7 +34,7 @@ fn framed(alloc: Global, kind: u8, path: &[u8], rest: &[u8]) -> Result<Bytes, No
 /// `frames_are_seen`.
 #[tactic(auto, unfolding(crate::specs::Message::frame))]
 pub fn request_frame(alloc: Global, request: &Request<'_>) -> Result<Bytes, NoMemory>
-    requires { Fits (message_of request.now) }
+    requires { HasFrame (message_of request.now) }
     ensures { IfOk result (λ bytes. bytes ≡ frame (message_of request.now)) }
 {
     match request {

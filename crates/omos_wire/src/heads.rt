@@ -4,9 +4,11 @@ ghost use Rattle.std.specs.Prelude.{◌≡◌, ◌+◌, ◌*◌, ◌≤◌, ◌�
 ghost use Rattle.std.specs.List.{flat_map};
 ghost use Rattle.arrayvec.specs.ArrayVec.{array_vec_len};
 ghost use Rattle.omos_base.specs.Endian.{little_bytes};
-ghost use Rattle.omos_wire.specs.Answer.{IsSendable, answer_of, flag, reply_frame, span_of};
-ghost use Rattle.omos_wire.specs.Answer.{counted, longest_reply, span_bytes};
-ghost use Rattle.omos_wire.specs.Heads.{bulk, IsSmall};
+ghost use Rattle.omos_wire.specs.Answer.{IsSendable, answer_of, flag, reply_frame};
+ghost use Rattle.omos_wire.specs.Answer.{longest_reply, span_bytes};
+ghost use Rattle.omos_wire.specs.Answer.{nine_counts, wire_span};
+ghost use Rattle.omos_wire.specs.Heads.{bulk};
+ghost use Rattle.omos_wire.specs.Heads.{HasFixedWidth};
 
 use crate::reply::Reply;
 use arrayvec::ArrayVec;
@@ -76,7 +78,7 @@ fn put_three(head: &mut Head, first: u64, second: u64, third: u64)
 
 fn counts_head(counts: &Counts) -> Head
     ensures { result.items
-        ≡ little_bytes 4 73 ++ 133 ∷ flat_map (little_bytes 8) (counted counts.now) }
+        ≡ little_bytes 4 73 ++ 133 ∷ flat_map (little_bytes 8) (nine_counts counts.now) }
 {
     let mut head = begin(73, 133);
     put_three(&mut head, counts.version, counts.paths, counts.placements);
@@ -109,7 +111,7 @@ pub(crate) fn places_head(placements: &[Placement]) -> Head
 #[tactic(auto, unfolding(crate::specs::Answer::reply_frame))]
 pub(crate) fn head_of(reply: &Reply<'_>) -> Head
     requires size { IsSendable (answer_of reply.now) }
-    requires small { IsSmall (answer_of reply.now) }
+    requires small { HasFixedWidth (answer_of reply.now) }
     ensures { result.items ++ bulk (answer_of reply.now) ≡ reply_frame (answer_of reply.now) }
 {
     match reply {
@@ -133,7 +135,7 @@ pub(crate) fn head_of(reply: &Reply<'_>) -> Head
 /// The bytes of at most 64 placements.
 pub(crate) fn spans_of(placements: &[Placement]) -> ArrayVec<u8, 768>
     requires { length placements.now ≤ 64 }
-    ensures { result.items ≡ flat_map span_bytes (map span_of placements.now) }
+    ensures { result.items ≡ flat_map span_bytes (map wire_span placements.now) }
 {
     let mut bytes = ArrayVec::new();
     for placement in placements {
@@ -145,7 +147,7 @@ pub(crate) fn spans_of(placements: &[Placement]) -> ArrayVec<u8, 768>
 /// Appends a placement's bytes, for which there is room.
 pub(crate) fn put_span<const N: usize>(bytes: &mut ArrayVec<u8, N>, placement: &Placement)
     requires { array_vec_len bytes.old + 12 ≤ N }
-    ensures items { bytes.new.items ≡ bytes.old.items ++ span_bytes (span_of placement.now) }
+    ensures items { bytes.new.items ≡ bytes.old.items ++ span_bytes (wire_span placement.now) }
     ensures len { array_vec_len bytes.new ≡ array_vec_len bytes.old + 12 }
 {
     put_number(bytes, placement.base);

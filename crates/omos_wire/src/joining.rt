@@ -1,7 +1,8 @@
 //! Replies joined to one piece, so that one write sends them.
 
 ghost use Rattle.std.specs.Prelude.{◌≡◌, ◌+◌, ◌*◌, ◌≤◌, ◌++◌, length, map, true};
-ghost use Rattle.omos_wire.specs.Answer.{Places, longest_reply, reply_frame, span_bytes, span_of};
+ghost use Rattle.omos_wire.specs.Answer.{Places, longest_reply, reply_frame, span_bytes};
+ghost use Rattle.omos_wire.specs.Answer.{wire_span};
 
 use crate::heads::{places_head, put_span};
 use arrayvec::ArrayVec;
@@ -18,7 +19,7 @@ pub(crate) fn join(room: &mut Vec<u8>, first: &[u8], second: &[u8]) -> bool
 /// Appends a placement's bytes. It is false where there is no memory.
 fn push_span(room: &mut Vec<u8>, placement: &Placement) -> bool
     ensures { result ≡ true
-        → room.new.items ≡ room.old.items ++ span_bytes (span_of placement.now) }
+        → room.new.items ≡ room.old.items ++ span_bytes (wire_span placement.now) }
 {
     let mut bytes = ArrayVec::<u8, 12>::new();
     put_span(&mut bytes, placement);
@@ -28,7 +29,7 @@ fn push_span(room: &mut Vec<u8>, placement: &Placement) -> bool
 /// Fills the room with the frame of a list of placements. It is false where there is no memory.
 pub(crate) fn join_places(room: &mut Vec<u8>, placements: &[Placement]) -> bool
     requires { 5 + 12 * length placements.now ≤ longest_reply }
-    ensures { result ≡ true → room.new.items ≡ reply_frame (Places (map span_of placements.now)) }
+    ensures { result ≡ true → room.new.items ≡ reply_frame (Places (map wire_span placements.now)) }
 {
     if !join(room, places_head(placements).as_slice(), &[]) {
         return false;

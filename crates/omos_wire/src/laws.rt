@@ -1,6 +1,7 @@
 //! Laws of frames and streams, each the contract of a function that does nothing.
 
-ghost use Rattle.omos_wire.specs.Laws.{ApartLaw, BadLaw, CutLaw, ReplyLaw, SeenLaw};
+ghost use Rattle.omos_wire.specs.Laws.{ApartLaw, BadLaw, ReplyLaw, SeenLaw};
+ghost use Rattle.omos_wire.specs.Laws.{OneCutLaw};
 
 /// A frame is seen as the frame of its request, whatever follows it.
 pub fn frames_are_seen()
@@ -9,7 +10,7 @@ pub fn frames_are_seen()
 
 /// A stream has one list of frames and one rest.
 pub fn one_cut()
-    ensures { CutLaw }
+    ensures { OneCutLaw }
 {}
 
 /// Bytes that begin no frame begin none however they go on, and for the same cause.

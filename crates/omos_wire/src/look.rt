@@ -3,8 +3,9 @@
 ghost use Rattle.std.specs.Prelude.{◌≡◌, ◌≤◌, length};
 ghost use Rattle.omos_wire.specs.Found.{Sees};
 ghost use Rattle.omos_wire.specs.Message.{message_of};
-ghost use Rattle.omos_wire.specs.Sight.{sight, sight_of, IsWithin, message, with_size, with_kind};
+ghost use Rattle.omos_wire.specs.Sight.{sight, sight_of, message, with_size, with_kind};
 ghost use Rattle.omos_wire.specs.Sight.{with_path};
+ghost use Rattle.omos_wire.specs.Sight.{IsLookWithin};
 
 use crate::request::{FrameCause, Request};
 use omos_base::{u16_at, u32_at};
@@ -40,7 +41,7 @@ fn with_path_of(size: usize, kind: u8, count: usize, bytes: &[u8]) -> Look<'_>
     requires long { 7 ≤ length bytes.now }
     requires counts { count ≤ 65535 }
     ensures sight { sight_of result ≡ with_path size kind count bytes.now }
-    ensures within { IsWithin result (length bytes.now) }
+    ensures within { IsLookWithin result (length bytes.now) }
 {
     if size < 3 + count || (2 < kind && 3 + count < size) {
         return Look::Bad(FrameCause::Shape);
@@ -58,7 +59,7 @@ fn with_kind_of(size: usize, kind: u8, bytes: &[u8]) -> Look<'_>
     requires sizes { size ≤ 2097152 }
     requires long { 5 ≤ length bytes.now }
     ensures sight { sight_of result ≡ with_kind size kind bytes.now }
-    ensures within { IsWithin result (length bytes.now) }
+    ensures within { IsLookWithin result (length bytes.now) }
 {
     if kind == 0 || 7 < kind {
         return Look::Bad(FrameCause::Kind);
@@ -84,7 +85,7 @@ fn with_kind_of(size: usize, kind: u8, bytes: &[u8]) -> Look<'_>
 #[tactic(auto, unfolding(crate::specs::Sight::sight, crate::specs::Sight::with_size))]
 fn look_at(bytes: &[u8]) -> Look<'_>
     ensures sight { sight_of result ≡ sight bytes.now }
-    ensures within { IsWithin result (length bytes.now) }
+    ensures within { IsLookWithin result (length bytes.now) }
 {
     if bytes.len() < 4 {
         return Look::Short;
@@ -102,7 +103,7 @@ fn look_at(bytes: &[u8]) -> Look<'_>
 /// The front of the bytes, found at the earliest byte.
 pub(crate) fn front(bytes: &[u8]) -> Look<'_>
     ensures sees { Sees result bytes.now }
-    ensures within { IsWithin result (length bytes.now) }
+    ensures within { IsLookWithin result (length bytes.now) }
 {
     look_at(bytes)
 }

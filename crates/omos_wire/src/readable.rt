@@ -2,8 +2,9 @@
 
 ghost use Rattle.std.specs.Prelude.{◌+◌, ◌*◌, ◌^◌, ◌<◌, ◌≤◌, length, map};
 ghost use Rattle.std.specs.List.{AllByRecursion};
-ghost use Rattle.omos_wire.specs.Answer.{IsReadable, IsSendable, IsSpan};
-ghost use Rattle.omos_wire.specs.Answer.{answer_of, longest_reply, span_of};
+ghost use Rattle.omos_wire.specs.Answer.{IsSendable};
+ghost use Rattle.omos_wire.specs.Answer.{answer_of, longest_reply};
+ghost use Rattle.omos_wire.specs.Answer.{IsCodedSpan, IsReadBack, wire_span};
 ghost use Rattle.omos_wire.specs.Answer as answer;
 
 use crate::refused_head::size_of_all;
@@ -21,7 +22,7 @@ fn fits_u64(number: u64)
 {}
 
 fn spans_fit(placements: &[Placement])
-    ensures { AllByRecursion IsSpan (map span_of placements.now) }
+    ensures { AllByRecursion IsCodedSpan (map wire_span placements.now) }
 {
     'placements: for placement in placements {
         fits_u64(placement.base);
@@ -30,7 +31,7 @@ fn spans_fit(placements: &[Placement])
 }
 
 fn counts_fit(counts: &Counts)
-    ensures { IsReadable (answer.Counts counts.now) }
+    ensures { IsReadBack (answer.Counts counts.now) }
 {
     fits_u64(counts.version);
     fits_u64(counts.paths);
@@ -44,7 +45,7 @@ fn counts_fit(counts: &Counts)
 }
 
 fn refusal_fits(refused: &Refused)
-    ensures { IsReadable (answer.Refused refused.now) }
+    ensures { IsReadBack (answer.Refused refused.now) }
 {
     let row = row_of(refused);
     size_of_all(&row.fields);
@@ -52,29 +53,29 @@ fn refusal_fits(refused: &Refused)
 
 fn image_fits(version: u64, base: u64, bytes: &[u8])
     requires { 17 + length bytes.now ≤ longest_reply }
-    ensures { IsReadable (answer.Image version base bytes.now) }
+    ensures { IsReadBack (answer.Image version base bytes.now) }
 {}
 
 fn placements_fit(placements: &[Placement])
     requires { 5 + 12 * length placements.now ≤ longest_reply }
-    ensures { IsReadable (answer.Places (map span_of placements.now)) }
+    ensures { IsReadBack (answer.Places (map wire_span placements.now)) }
 {
     spans_fit(placements);
 }
 
 fn version_fits(version: u64)
-    ensures { IsReadable (answer.Published version) }
+    ensures { IsReadBack (answer.Published version) }
 {}
 
 fn flag_fits(held: bool)
-    ensures { IsReadable (answer.Flushed held) }
+    ensures { IsReadBack (answer.Flushed held) }
 {}
 
 /// What `write_reply` writes is the frame of a reply, which `read_reply` then reads: a law. By the
 /// law `one_reply` it reads the very reply.
 pub fn replies_are_read_back(reply: &Reply<'_>)
     requires { IsSendable (answer_of reply.now) }
-    ensures { IsReadable (answer_of reply.now) }
+    ensures { IsReadBack (answer_of reply.now) }
 {
     match reply {
         Reply::Published(version) => version_fits(*version),

@@ -3,8 +3,9 @@
 ghost use Rattle.std.specs.Prelude.{◌≡◌, ◌+◌, ◌*◌, ◌^◌, ◌<◌, ◌≤◌, ◌++◌, length, map};
 ghost use Rattle.std.specs.List.{flat_map};
 ghost use Rattle.omos_outside.specs.Faults.{Rose};
-ghost use Rattle.omos_wire.specs.Answer.{IsSendable, answer_of, reply_frame, span_bytes, span_of};
+ghost use Rattle.omos_wire.specs.Answer.{IsSendable, answer_of, reply_frame, span_bytes};
 ghost use Rattle.omos_wire.specs.Answer.{longest_reply, Places};
+ghost use Rattle.omos_wire.specs.Answer.{wire_span};
 ghost use Rattle.omos_wire.specs.Answer as answer;
 ghost use Rattle.omos_outside.specs.Sent.{Wrote};
 ghost use Rattle.refusal_lines.specs.Codes.{coded_line, row_of};
@@ -26,7 +27,7 @@ const JOINED: usize = 16_363;
 /// Writes placements, some at a time.
 fn write_spans<K: Sink>(sink: &mut K, placements: &[Placement]) -> Sent
     ensures wrote { Wrote result (K.held sink.old) (K.held sink.new)
-        (flat_map span_bytes (map span_of placements.now)) }
+        (flat_map span_bytes (map wire_span placements.now)) }
     ensures later { K.faults sink.old ≤ K.faults sink.new }
     ensures counts { K.faults sink.old < 2 ^ 64 → K.faults sink.new < 2 ^ 64 }
     ensures failed { result ≡ Sent.Failed → Rose (K.faults sink.old) (K.faults sink.new) }
@@ -47,7 +48,7 @@ fn write_spans<K: Sink>(sink: &mut K, placements: &[Placement]) -> Sent
 fn write_pieces<K: Sink>(sink: &mut K, placements: &[Placement]) -> Sent
     requires { 5 + 12 * length placements.now ≤ longest_reply }
     ensures wrote { Wrote result (K.held sink.old) (K.held sink.new)
-        (reply_frame (Places (map span_of placements.now))) }
+        (reply_frame (Places (map wire_span placements.now))) }
     ensures later { K.faults sink.old ≤ K.faults sink.new }
     ensures counts { K.faults sink.old < 2 ^ 64 → K.faults sink.new < 2 ^ 64 }
     ensures failed { result ≡ Sent.Failed → Rose (K.faults sink.old) (K.faults sink.new) }
@@ -63,7 +64,7 @@ fn write_pieces<K: Sink>(sink: &mut K, placements: &[Placement]) -> Sent
 fn write_places<K: Sink>(sink: &mut K, room: &mut Vec<u8>, placements: &[Placement]) -> Sent
     requires { 5 + 12 * length placements.now ≤ longest_reply }
     ensures wrote { Wrote result (K.held sink.old) (K.held sink.new)
-        (reply_frame (Places (map span_of placements.now))) }
+        (reply_frame (Places (map wire_span placements.now))) }
     ensures later { K.faults sink.old ≤ K.faults sink.new }
     ensures counts { K.faults sink.old < 2 ^ 64 → K.faults sink.new < 2 ^ 64 }
     ensures failed { result ≡ Sent.Failed → Rose (K.faults sink.old) (K.faults sink.new) }

@@ -14,16 +14,17 @@ use Rattle.omosd_calls.specs.declared.ending.Ending.TheVariants.{SinkFailed, NoM
 use Rattle.omosd_calls.specs.Input.{IsInput, ToldInput}
 use Rattle.omosd_calls.specs.Output.{ToldOutput}
 use Rattle.omosd_calls.specs.Once.{Answered, IsOutput}
-use Rattle.omosd_calls.specs.Lone.{IsImage, IsRefusal, cause_line}
+use Rattle.omosd_calls.specs.Lone.{cause_line}
+use Rattle.omosd_calls.specs.Lone.{IsLoneImage, IsRefusalLine}
 
 -- a file has one answer, so no two outputs
-same_image : (file a b : List ℕ) → IsImage file a → IsImage file b → a ≡ b
+same_image : (file a b : List ℕ) → IsLoneImage file a → IsLoneImage file b → a ≡ b
 same_image file a b x y = let both : Ok a ≡ Ok b = sym x ∙ y in cc
 
-image_not_refusal : (file a b : List ℕ) → IsImage file a → IsRefusal file b → ⊥
+image_not_refusal : (file a b : List ℕ) → IsLoneImage file a → IsRefusalLine file b → ⊥
 image_not_refusal file a b x y = let both : Ok a ≡ Err y.0 = sym x ∙ y.1 in cc
 
-same_refusal : (file a b : List ℕ) → IsRefusal file a → IsRefusal file b → a ≡ b
+same_refusal : (file a b : List ℕ) → IsRefusalLine file a → IsRefusalLine file b → a ≡ b
 same_refusal file a b x y =
     let both : Err x.0 ≡ Err y.0 = sym x.1 ∙ y.1 in
     let same : x.0 ≡ y.0 = cc in x.2 ∙ ap cause_line same ∙ sym y.2
@@ -67,7 +68,7 @@ not_shorter count a b short part same =
 
 -- all of an output was written, so the run ended with the output's status
 pub ended_done : (e : Ending) (file : List ℕ) (before now : Option (List ℕ)) (a : List ℕ)
-    → Answered e file before now → IsImage file a → ToldOutput before now a → e ≡ Done
+    → Answered e file before now → IsLoneImage file a → ToldOutput before now a → e ≡ Done
 ended_done Done file before now a answer image told = refl
 ended_done Refused file before now a answer image told =
     absurd (image_not_refusal file a answer.0 image answer.1)
@@ -81,7 +82,7 @@ ended_done NoMemory file before now a answer image told =
     (subst (λ (t : Option (List ℕ)). ToldOutput before t a) answer told))
 
 pub ended_refused : (e : Ending) (file : List ℕ) (before now : Option (List ℕ)) (a : List ℕ)
-    → Answered e file before now → IsRefusal file a → ToldOutput before now a → e ≡ Refused
+    → Answered e file before now → IsRefusalLine file a → ToldOutput before now a → e ≡ Refused
 ended_refused Done file before now a answer refusal told =
     absurd (image_not_refusal file answer.0 a answer.1 refusal)
 ended_refused Refused file before now a answer refusal told = refl

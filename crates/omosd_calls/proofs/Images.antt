@@ -17,7 +17,7 @@ use Rattle.link_layout.specs.IsLaid.{IsLaid}
 use Rattle.link_model.specs.Module.{Module, alone, plan_of_module}
 use Rattle.link_model.specs.Plan.{Plan, plan_of}
 use Rattle.omosd_calls.specs.Lone.{lone_base, lone_path, unless_link, unless_object}
-use Rattle.omosd_calls.specs.Lone.{IsImage}
+use Rattle.omosd_calls.specs.Lone.{IsLoneImage}
 
 -- an image has bytes: those of its header
 bytes-some : (plan : Plan) (base : ℕ) (image : List ℕ) → image_bytes plan base ≡ Ok image
@@ -38,7 +38,7 @@ linked : (r : Result (List ℕ) Refusal) (image : List ℕ) → unless_link r �
 linked (Ok bytes) image e = cc
 linked (Err x) image e = cc
 
-pub lone_image-some : (file image : List ℕ) → IsImage file image → image ≢ []
+pub lone_image-some : (file image : List ℕ) → IsLoneImage file image → image ≢ []
 lone_image-some file image e none = go (fragment_of file) e
   where
     go : (r : Result FragmentParts ObjectFault) → unless_object r ≡ Ok image → ⊥

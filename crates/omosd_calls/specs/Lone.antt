@@ -37,10 +37,10 @@ cause_line (Object x) = coded_line (object_row x)
 cause_line (Link x) = coded_line (link_row x)
 
 -- this is the file's image
-abbrev pub IsImage : List ℕ → List ℕ → Type 0
-IsImage file output = lone_answer file ≡ Ok output
+abbrev pub IsLoneImage : List ℕ → List ℕ → Type 0
+IsLoneImage file output = lone_answer file ≡ Ok output
 
 -- this is the line that says why the file has none
-abbrev pub IsRefusal : List ℕ → List ℕ → Type 0
-IsRefusal file output = (cause : Cause) × (lone_answer file ≡ Err cause)
+abbrev pub IsRefusalLine : List ℕ → List ℕ → Type 0
+IsRefusalLine file output = (cause : Cause) × (lone_answer file ≡ Err cause)
     × (output ≡ cause_line cause)

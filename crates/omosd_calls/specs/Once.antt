@@ -5,18 +5,19 @@ use Rattle.omosd_calls.specs.declared.ending.Ending.{Ending}
 use Rattle.omosd_calls.specs.declared.ending.Ending.TheVariants.{Done, Refused, Usage, SourceFailed}
 use Rattle.omosd_calls.specs.declared.ending.Ending.TheVariants.{SinkFailed, NoMemory}
 use Rattle.omosd_calls.specs.declared.cause.Cause.{Cause}
-use Rattle.omosd_calls.specs.Lone.{IsImage, IsRefusal, cause_line}
+use Rattle.omosd_calls.specs.Lone.{cause_line}
+use Rattle.omosd_calls.specs.Lone.{IsLoneImage, IsRefusalLine}
 use Rattle.omos_outside.specs.Sent.{WrotePart}
 use Rattle.omosd_calls.specs.Output.{HasWritten, HasWrittenPart}
 
 -- the file's image, or the line of its refusal
 abbrev pub IsOutput : List ℕ → List ℕ → Type 0
-IsOutput file output = IsImage file output ⊎ IsRefusal file output
+IsOutput file output = IsLoneImage file output ⊎ IsRefusalLine file output
 
 -- what was written for a file, by how the run ends
 abbrev pub Answered : Ending → List ℕ → Option (List ℕ) → Option (List ℕ) → Type 0
-Answered Done file before now = HasWritten before now (IsImage file)
-Answered Refused file before now = HasWritten before now (IsRefusal file)
+Answered Done file before now = HasWritten before now (IsLoneImage file)
+Answered Refused file before now = HasWritten before now (IsRefusalLine file)
 Answered Usage file before now = ⊥
 Answered SourceFailed file before now = ⊥
 Answered SinkFailed file before now = HasWrittenPart before now (IsOutput file)

@@ -4,7 +4,6 @@ ghost use Rattle.std.specs.Prelude.{◌≡◌, ◌≤◌, ◌↔◌, ◌∷◌, 
 ghost use Rattle.omos_outside.specs.Faults.{Rose};
 ghost use Rattle.omosd_calls.specs.Input.{HasRead, ToldInput};
 ghost use Rattle.omosd_calls.specs.Output.{HasWritten, HasWrittenPart, ToldOutput};
-ghost use Rattle.omosd_calls.specs.Lone.{IsImage, IsRefusal};
 ghost use Rattle.omosd_calls.specs.Once.{Answered, IsOutput, WroteLine};
 ghost use Rattle.omosd_calls.specs.Words.{IsOnce};
 
@@ -17,6 +16,7 @@ use omos_base::Fault;
 use omos_outside::{Sent, Sink, Source, write_all};
 use seeded_hash::Seed;
 use std::alloc::Global;
+ghost use Rattle.omosd_calls.specs.Lone.{IsLoneImage, IsRefusalLine};
 
 /// Writes the line that says why a file has no image.
 fn write_line<K: Sink>(cause: &Cause, sink: &mut K) -> Ending
@@ -70,16 +70,16 @@ pub fn omosd_once<S: Source, K: Sink>(
 
     // The image of the file that was read, and nothing else, was written: under 0 alone.
     ensures done { result ≡ 0 → HasRead (S.told source.old) (S.told source.new)
-        (λ file. HasWritten (K.held sink.old) (K.held sink.new) (IsImage file)) }
+        (λ file. HasWritten (K.held sink.old) (K.held sink.new) (IsLoneImage file)) }
     ensures done_where { (file output : List ℕ) → IsOnce words.now
-        → ToldInput (S.told source.old) (S.told source.new) file → IsImage file output
+        → ToldInput (S.told source.old) (S.told source.new) file → IsLoneImage file output
         → ToldOutput (K.held sink.old) (K.held sink.new) output → result ≡ 0 }
 
     // The line of its refusal, and nothing else, was written: under 1 alone.
     ensures refused { result ≡ 1 → HasRead (S.told source.old) (S.told source.new)
-        (λ file. HasWritten (K.held sink.old) (K.held sink.new) (IsRefusal file)) }
+        (λ file. HasWritten (K.held sink.old) (K.held sink.new) (IsRefusalLine file)) }
     ensures refused_where { (file output : List ℕ) → IsOnce words.now
-        → ToldInput (S.told source.old) (S.told source.new) file → IsRefusal file output
+        → ToldInput (S.told source.old) (S.told source.new) file → IsRefusalLine file output
         → ToldOutput (K.held sink.old) (K.held sink.new) output → result ≡ 1 }
 
     // The source failed, and nothing was written.

@@ -5,17 +5,21 @@ use Rattle.std.proofs.Math.Seq.{drop-append_seam}
 use Rattle.turn_lock.specs.Steps.{Has, GoesOn, AllBelow, steps_by}
 use Rattle.turn_lock.specs.Knowledge.{TableId, Knowledge, numbers}
 use Rattle.omos_outside.specs.Links.{DoorState, GivenBack}
-use Rattle.worker_line.specs.Drawn.{Line, Drawn, DrewOn, newcomer}
+use Rattle.worker_line.specs.Drawn.{Line, Drawn, DrewOn}
+use Rattle.worker_line.specs.Drawn.{new_seat}
 use Rattle.worker_line.specs.declared.workers.Seated.{Seated}
 use Rattle.history_book.specs.declared.step.Step.{Step}
 use Rattle.hub_store.specs.Parts.{StoreParts}
 use Rattle.history_book.specs.Steps.{seat_of}
 use Rattle.history_book.specs.Legal.{IsLegal}
-use Rattle.omos_hub.specs.Passes.{IsPass, AreAll, HasAll, new_pass, joined_at}
+use Rattle.omos_hub.specs.Passes.{AreAll, HasAll, new_pass, joined_at}
+use Rattle.omos_hub.specs.Passes.{IsPassOf}
 use Rattle.omosd_slots.specs.Visits.{WasServed}
-use Rattle.omosd_slots.specs.Fits.{WorkerState, Fits, FitsHub, HasBack, Stands, kept_from, kept_of, told_count, told_before, one_if}
+use Rattle.omosd_slots.specs.Fits.{WorkerState, FitsHub, HasBack, kept_from, kept_of, told_count, told_before}
+use Rattle.omosd_slots.specs.Fits.{GoesOnOrStops, IsWorkerOf, one_where}
 use Rattle.omosd_slots.proofs.Linked.{kept_is}
-use Rattle.omosd_slots.specs.Slots.{SlotState, new_worker, HasRun, HaveRun, slot_of, pass_of, draws_of, links_of, failed_of, total, IsOf, IsTold, got_of, missed_of, parts_of, is_stopped, ServedBack, IsServed, AreServed, links_between, stopped_between, failed_between, TellAll, Ran as Whole}
+use Rattle.omosd_slots.specs.Slots.{SlotState, new_worker, HaveRun, slot_of, pass_of, draws_of, links_of, failed_of, got_of, is_stopped, ServedBack, AreServed, links_between, stopped_between, failed_between, TellAll, Ran as Whole}
+use Rattle.omosd_slots.specs.Slots.{DrawsFrom, HasRunSlot, IsSeatTold, IsServedSlot, seat_missed, seat_parts, slots_total}
 
 below_self : (n : ℕ) → nat_lt n n ≡ false
 below_self n = grind (arith, nat_tests)
@@ -28,7 +32,7 @@ module _ (hub : TableId) (c r n : ℕ) (line : Line) where
   It = Seated WorkerState
 
   abbrev Ran1 : ℕ → SlotState → It → Type 0
-  Ran1 = HasRun hub c r n line
+  Ran1 = HasRunSlot hub c r n line
 
   abbrev Ran : ℕ → List SlotState → List It → Type 0
   Ran = HaveRun hub c r n line
@@ -75,7 +79,7 @@ module _ (hub : TableId) (c r n : ℕ) (line : Line) where
 
   -- ---- one worker
 
-  pub pass_ran : (m : ℕ) (s : SlotState) (it : It) → Ran1 m s it → IsPass hub n m it.worker.pass
+  pub pass_ran : (m : ℕ) (s : SlotState) (it : It) → Ran1 m s it → IsPassOf hub n m it.worker.pass
   pass_ran m s it h = record {
     lock = h.fits.1.lock;
     idle = h.fits.1.idle;
@@ -84,7 +88,7 @@ module _ (hub : TableId) (c r n : ℕ) (line : Line) where
     joined_is = h.fits.1.joined ∙ ap joined_at (number_is m s it h);
   }
 
-  stands_at : (start door : DoorState) (stopped failed : Bool) (faults : ℕ) → start.faults ≡ faults → Stands start door stopped failed
+  stands_at : (start door : DoorState) (stopped failed : Bool) (faults : ℕ) → start.faults ≡ faults → GoesOnOrStops start door stopped failed
       → ((door.is_shut || nat_lt faults door.faults) ≡ stopped) × (nat_lt faults door.faults ≡ failed) × (faults ≤ door.faults)
   stands_at start door false failed faults same h =
       let e : faults ≡ door.faults = sym same ∙ sym h.1 in
@@ -126,7 +130,7 @@ module _ (hub : TableId) (c r n : ℕ) (line : Line) where
             (subst (λ (k : ℕ). WasServed c r k p.seen p.turns h.0) num (subst (λ (k : ℕ). WasServed c k p.number p.seen p.turns h.0) two (subst (λ (k : ℕ). WasServed k p.second p.number p.seen p.turns h.0) one h.3))),
       )
 
-  pub served_at : (steps : List Step) (m : ℕ) (s : SlotState) (it : It) → Ran1 m s it → GoesOn seat_of (numbers it.worker.pass) it.worker.pass.seen steps → IsServed c r steps m s.door it.worker.door
+  pub served_at : (steps : List Step) (m : ℕ) (s : SlotState) (it : It) → Ran1 m s it → GoesOn seat_of (numbers it.worker.pass) it.worker.pass.seen steps → IsServedSlot c r steps m s.door it.worker.door
   served_at steps m s it h goes = record {
     links = (risen m s it h).1;
     faults = (ended_at m s it h).2;
@@ -135,21 +139,21 @@ module _ (hub : TableId) (c r n : ℕ) (line : Line) where
 
   -- ---- all workers
 
-  pub passes_ran : (m : ℕ) (ss : List SlotState) (its : List It) → Ran m ss its → (k : ℕ) (d : Knowledge Step) → k < length (map pass_of its) → IsPass hub n (m + k) (get_or (map pass_of its) k d)
+  pub passes_ran : (m : ℕ) (ss : List SlotState) (its : List It) → Ran m ss its → (k : ℕ) (d : Knowledge Step) → k < length (map pass_of its) → IsPassOf hub n (m + k) (get_or (map pass_of its) k d)
   passes_ran m [] [] h k d lt = absurd (omega (arith, lt))
   passes_ran m [] (i ∷ its) h k d lt = absurd h
   passes_ran m (s ∷ ss) [] h k d lt = absurd h
-  passes_ran m (s ∷ ss) (i ∷ its) h zero d lt = subst (λ (j : ℕ). IsPass hub n j i.worker.pass) (omega arith) (pass_ran m s i h.0)
-  passes_ran m (s ∷ ss) (i ∷ its) h (suc k) d lt = subst (λ (j : ℕ). IsPass hub n j (get_or (map pass_of its) k d)) (omega arith) (passes_ran (m + 1) ss its h.1 k d (omega (arith, lt)))
+  passes_ran m (s ∷ ss) (i ∷ its) h zero d lt = subst (λ (j : ℕ). IsPassOf hub n j i.worker.pass) (omega arith) (pass_ran m s i h.0)
+  passes_ran m (s ∷ ss) (i ∷ its) h (suc k) d lt = subst (λ (j : ℕ). IsPassOf hub n j (get_or (map pass_of its) k d)) (omega arith) (passes_ran (m + 1) ss its h.1 k d (omega (arith, lt)))
 
-  pub seats_ran : (m : ℕ) (ss : List SlotState) (its : List It) → Ran m ss its → All (IsOf line n) (map draws_of its)
+  pub seats_ran : (m : ℕ) (ss : List SlotState) (its : List It) → Ran m ss its → All (DrawsFrom line n) (map draws_of its)
   seats_ran m [] [] h k d lt = absurd (omega (arith, lt))
   seats_ran m [] (i ∷ its) h k d lt = absurd h
   seats_ran m (s ∷ ss) [] h k d lt = absurd h
   seats_ran m (s ∷ ss) (i ∷ its) h zero d lt = (h.0.seat.line, h.0.seat.workers)
   seats_ran m (s ∷ ss) (i ∷ its) h (suc k) d lt = seats_ran (m + 1) ss its h.1 k d (omega (arith, lt))
 
-  pub told_ran : (m : ℕ) (ss : List SlotState) (its : List It) → Ran m ss its → All IsTold (map draws_of its)
+  pub told_ran : (m : ℕ) (ss : List SlotState) (its : List It) → Ran m ss its → All IsSeatTold (map draws_of its)
   told_ran m [] [] h k d lt = absurd (omega (arith, lt))
   told_ran m [] (i ∷ its) h k d lt = absurd h
   told_ran m (s ∷ ss) [] h k d lt = absurd h
@@ -165,23 +169,23 @@ module _ (hub : TableId) (c r n : ℕ) (line : Line) where
       (served_at steps m s i h.0 (goes 0 i.worker.pass (omega arith)), served_ran steps (m + 1) ss its h.1 (λ k d lt. goes (suc k) d (omega (arith, lt))))
 
   abbrev stopped_of : It → ℕ
-  stopped_of it = one_if it.worker.stopped
+  stopped_of it = one_where it.worker.stopped
 
   -- what the counts come to
   pub record Counts (ss : List SlotState) (its : List It) : Type 0 where
-    pub links : links_between ss (map slot_of its) ≡ total links_of its
-    pub stopped : stopped_between ss (map slot_of its) ≡ total stopped_of its
-    pub failed : failed_between ss (map slot_of its) ≡ total failed_of its
-    pub got : total got_of (map draws_of its) ≡ total links_of its + total stopped_of its
-    pub parts : total parts_of (map draws_of its) ≡ length its
-    pub missed : length its ≤ total missed_of (map draws_of its) + total stopped_of its
+    pub links : links_between ss (map slot_of its) ≡ slots_total links_of its
+    pub stopped : stopped_between ss (map slot_of its) ≡ slots_total stopped_of its
+    pub failed : failed_between ss (map slot_of its) ≡ slots_total failed_of its
+    pub got : slots_total got_of (map draws_of its) ≡ slots_total links_of its + slots_total stopped_of its
+    pub parts : slots_total seat_parts (map draws_of its) ≡ length its
+    pub missed : length its ≤ slots_total seat_missed (map draws_of its) + slots_total stopped_of its
 
   none_counts : Counts [] []
   none_counts = record { links = refl; stopped = refl; failed = refl; got = refl; parts = refl; missed = omega arith }
 
-  missed_or : (it : It) → (it.seat.missed ≡ 1) ⊎ (it.worker.stopped ≡ true) → 1 ≤ it.seat.missed + one_if it.worker.stopped
+  missed_or : (it : It) → (it.seat.missed ≡ 1) ⊎ (it.worker.stopped ≡ true) → 1 ≤ it.seat.missed + one_where it.worker.stopped
   missed_or it (inl e) = omega (arith, e)
-  missed_or it (inr e) = let b : one_if it.worker.stopped ≡ 1 = ap one_if e in omega (arith, b)
+  missed_or it (inr e) = let b : one_where it.worker.stopped ≡ 1 = ap one_where e in omega (arith, b)
 
   pub counts_ran : (m : ℕ) (ss : List SlotState) (its : List It) → Ran m ss its → Counts ss its
   counts_ran m [] [] h = none_counts
@@ -191,8 +195,8 @@ module _ (hub : TableId) (c r n : ℕ) (line : Line) where
       let t = counts_ran (m + 1) ss its h.1 in
       let e = ended_at m s i h.0 in
       let l = (risen m s i h.0).0 in
-      let es = ap one_if e.0 in
-      let ef = ap one_if e.1 in
+      let es = ap one_where e.0 in
+      let ef = ap one_where e.1 in
       let a = t.links in let b = t.stopped in let d = t.failed in let g = t.got in let p = t.parts in let q = t.missed in
       let calls = h.0.calls_is in
       let are = h.0.fits.1.calls_are in
@@ -219,8 +223,8 @@ module _ (hub : TableId) (c r n : ℕ) (line : Line) where
   all_ran ss its h count some =
       let len = length-passes its in record {
         some = omega (arith, len, some);
-        each = λ k d lt. subst (λ (j : ℕ). IsPass hub j (k + 1) (get_or (map pass_of its) k d)) (count ∙ sym len)
-            (subst (λ (j : ℕ). IsPass hub n j (get_or (map pass_of its) k d)) (omega arith) (passes_ran 1 ss its h k d lt));
+        each = λ k d lt. subst (λ (j : ℕ). IsPassOf hub j (k + 1) (get_or (map pass_of its) k d)) (count ∙ sym len)
+            (subst (λ (j : ℕ). IsPassOf hub n j (get_or (map pass_of its) k d)) (omega arith) (passes_ran 1 ss its h k d lt));
       }
 
   limits_ran : (m : ℕ) (ss : List SlotState) (its : List It) → Ran m ss its → (k : ℕ) (d : Knowledge Step) → k < length (map pass_of its) → ((get_or (map pass_of its) k d).first ≡ c) × ((get_or (map pass_of its) k d).second ≡ r)
@@ -239,7 +243,7 @@ module _ (hub : TableId) (c r n : ℕ) (line : Line) where
     pub legal : IsLegal store.limits.cache store.limits.steps store.steps
 
   pub ran_all : (ss : List SlotState) (its : List It) (store : StoreParts) (sessions failures : ℕ) (d : Knowledge Step) → Ran 1 ss its → n ≡ length its → 0 < length its → Closed (map pass_of its) store
-      → TellAll line n (map draws_of its) → line.sessions ≡ sessions → failures ≡ total failed_of its → Whole c r sessions ss (map slot_of its) (total links_of its) (nat_lt 0 failures) store
+      → TellAll line n (map draws_of its) → line.sessions ≡ sessions → failures ≡ slots_total failed_of its → Whole c r sessions ss (map slot_of its) (slots_total links_of its) (nat_lt 0 failures) store
   ran_all ss its store sessions failures d h count some k tell is fails =
       let len = length-passes its in
       let sl = length-ran 1 ss its h in

@@ -13,7 +13,8 @@ use Rattle.omosd_slots.specs.Visits.{HasVisit, WasServed}
 use Rattle.omos_session.specs.declared.session.SessionEnd.{SessionEnd}
 use Rattle.omos_session.specs.declared.session.SessionEnd.TheVariants as ending
 use Rattle.omosd_slots.proofs.Visited.{served_more, visit_of, cause_of}
-use Rattle.omosd_slots.specs.Fits.{WorkerState, Fits, FitsFrom, HasBack, Stands, kept_from, kept_of, told_count, told_before, one_if}
+use Rattle.omosd_slots.specs.Fits.{WorkerState, FitsFrom, HasBack, kept_from, kept_of, told_count, told_before}
+use Rattle.omosd_slots.specs.Fits.{GoesOnOrStops, IsWorkerOf, one_where}
 
 module _ (hub : TableId) (p p' : Knowledge Step) (x y : ℕ) (told told' : Option Stream) (holds holds' : Option (List ℕ)) (sf sf' kf kf' : ℕ) (end : SessionEnd) where
   -- where the door tells its links, a session over a fresh one is a visit
@@ -43,12 +44,12 @@ module _ (p p' : Knowledge Step) (link : GivenBack) (same : p' ≡ record p { se
         subst (λ (ts : List ℕ). WasServed p.first p.second p.number p'.seen ts (h.0 ++ link ∷ [])) (sym v.turns) w,
       )
 
-  pub fits_more : (hub : TableId) (start door now : DoorState) (x y n m : ℕ) (stopped failed : Bool) → Fits hub p start door x n m stopped failed → stopped ≡ false → IsLegal p.first p.second p'.seen
-      → length p'.turns ≤ length p.turns + 262144 → y ≤ x + 65536 → now ≡ after_done link (record door { links = door.links + 1 }) → IfSome door.back (λ _. HasVisit p p' link) → Fits hub p' start now y (n + 1) (m + 1) stopped failed
+  pub fits_more : (hub : TableId) (start door now : DoorState) (x y n m : ℕ) (stopped failed : Bool) → IsWorkerOf hub p start door x n m stopped failed → stopped ≡ false → IsLegal p.first p.second p'.seen
+      → length p'.turns ≤ length p.turns + 262144 → y ≤ x + 65536 → now ≡ after_done link (record door { links = door.links + 1 }) → IfSome door.back (λ _. HasVisit p p' link) → IsWorkerOf hub p' start now y (n + 1) (m + 1) stopped failed
   fits_more hub start door now x y n m stopped failed f open_ legal few gate is v =
       let a = f.turns in let b = f.gate in let c = f.links_low in let d = f.faults_low in let e = f.links_are in let g = f.calls_are in
-      subst (λ (k : Knowledge Step). Fits hub k start now y (n + 1) (m + 1) stopped failed) (sym same)
-      (subst (λ (s : DoorState). Fits hub q start s y (n + 1) (m + 1) stopped failed) (sym is)
+      subst (λ (k : Knowledge Step). IsWorkerOf hub k start now y (n + 1) (m + 1) stopped failed) (sym same)
+      (subst (λ (s : DoorState). IsWorkerOf hub q start s y (n + 1) (m + 1) stopped failed) (sym is)
       record {
         lock = f.lock;
         idle = f.idle;
@@ -66,14 +67,14 @@ module _ (p p' : Knowledge Step) (link : GivenBack) (same : p' ≡ record p { se
         back = back_more start.back door.back m f.back v;
       })
     where
-      stands : (b : Bool) → Stands start door b failed → Stands start (after_done link (record door { links = door.links + 1 })) b failed
+      stands : (b : Bool) → GoesOnOrStops start door b failed → GoesOnOrStops start (after_done link (record door { links = door.links + 1 })) b failed
       stands true h = h
       stands false h = h
 
 -- the same from the door as it was once it had handed the link out
-pub fits_on : (p p' : Knowledge Step) (hub : TableId) (start door mid now : DoorState) (x y n m : ℕ) (stopped failed : Bool) → Fits hub p start door x n m stopped failed → stopped ≡ false
+pub fits_on : (p p' : Knowledge Step) (hub : TableId) (start door mid now : DoorState) (x y n m : ℕ) (stopped failed : Bool) → IsWorkerOf hub p start door x n m stopped failed → stopped ≡ false
     → p' ≡ record p { seen = p'.seen; turns = p'.turns } → IsLegal p.first p.second p'.seen → length p'.turns ≤ length p.turns + 262144 → y ≤ x + 65536 → mid ≡ record door { links = door.links + 1 }
-    → (link : GivenBack) × (now ≡ after_done link mid) × IfSome mid.back (λ _. HasVisit p p' link) → Fits hub p' start now y (n + 1) (m + 1) stopped failed
+    → (link : GivenBack) × (now ≡ after_done link mid) × IfSome mid.back (λ _. HasVisit p p' link) → IsWorkerOf hub p' start now y (n + 1) (m + 1) stopped failed
 fits_on p p' hub start door mid now x y n m stopped failed f goes same legal few gate is v =
     fits_more p p' v.0 same hub start door now x y n m stopped failed f goes legal few gate (v.1 ∙ ap (after_done v.0) is)
     (subst (λ (s : DoorState). IfSome s.back (λ _. HasVisit p p' v.0)) is v.2)
@@ -86,10 +87,10 @@ told_is p None (Some now) count h = absurd h
 told_is p (Some before) None count h = absurd h
 told_is p (Some before) (Some now) count h = let e = ap length h.1 in let l = length-append before h.0 in let n = h.2 in omega (arith, e, l, n)
 
-faults_are : (start door : DoorState) (stopped failed : Bool) → Stands start door stopped failed → door.faults - one_if failed ≡ start.faults
-faults_are start door false failed h = let a = h.1 in let b = ap one_if h.2 in omega (arith, a, b)
-faults_are start door true failed (inl h) = let a = h.1 in let b = ap one_if h.2 in omega (arith, a, b)
-faults_are start door true failed (inr h) = let a = h.1 in let b = ap one_if h.2 in omega (arith, a, b)
+faults_are : (start door : DoorState) (stopped failed : Bool) → GoesOnOrStops start door stopped failed → door.faults - one_where failed ≡ start.faults
+faults_are start door false failed h = let a = h.1 in let b = ap one_where h.2 in omega (arith, a, b)
+faults_are start door true failed (inl h) = let a = h.1 in let b = ap one_where h.2 in omega (arith, a, b)
+faults_are start door true failed (inr h) = let a = h.1 in let b = ap one_where h.2 in omega (arith, a, b)
 
 pub kept_is : (hub : TableId) (start : DoorState) (w : WorkerState) → FitsFrom hub start w → kept_of w ≡ kept_from w.pass start
 kept_is hub start w f =

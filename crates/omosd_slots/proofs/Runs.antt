@@ -3,7 +3,8 @@ use Rattle.std.proofs.Common.{◌≡◌, ◌⊎◌, ℕ, zero, suc, ◌+◌, ◌
 use native.Mathlib.Numerals.{unary_clauses}
 use Rattle.turn_lock.specs.Knowledge.{TableId, Knowledge}
 use Rattle.omos_outside.specs.Links.{DoorState, GivenBack}
-use Rattle.worker_line.specs.Drawn.{Line, Drawn, DrewOn, newcomer, IsNew}
+use Rattle.worker_line.specs.Drawn.{Line, Drawn, DrewOn, IsNew}
+use Rattle.worker_line.specs.Drawn.{new_seat}
 use Rattle.worker_line.specs.Served.{WasRun}
 use Rattle.worker_line.specs.declared.workers.Seated.{Seated}
 use Rattle.turn_lock.specs.Steps.{steps_by}
@@ -14,8 +15,10 @@ use Rattle.history_book.specs.Legal.{IsLegal}
 use Rattle.omos_hub.specs.Passes.{new_pass}
 use Rattle.omosd_slots.proofs.Visited.{served_none}
 use Rattle.omosd_slots.specs.declared.slot.Slot.{Slot}
-use Rattle.omosd_slots.specs.Fits.{WorkerState, Fits, FitsHub, HasBack, kept_of}
-use Rattle.omosd_slots.specs.Slots.{slots_of, SlotState, IsOpen, AreOpen, new_worker, seated_at, seated_from, HasRun, HaveRun}
+use Rattle.omosd_slots.specs.Fits.{WorkerState, FitsHub, HasBack, kept_of}
+use Rattle.omosd_slots.specs.Fits.{IsWorkerOf}
+use Rattle.omosd_slots.specs.Slots.{SlotState, AreOpen, new_worker, seated_at, seated_from, HaveRun}
+use Rattle.omosd_slots.specs.Slots.{HasRunSlot, IsOpenSlot, slot_states}
 
 module _ {A : Type 0} where
   pub tail_at : (x : A) (xs : List A) (j : ℕ) (d : A) → get_or (x ∷ xs) (j + 1) d ≡ get_or xs j d
@@ -52,7 +55,7 @@ module _ (hub : TableId) (c r n : ℕ) (line : Line) where
       (λ i. is' i ++ From (len i + 1) ss') ∙ (append_assoc its (x ∷ []) (From (length its + 1 + 1) ss') ∙ (ap (λ (y : It). its ++ y ∷ From (length its + 1 + 1) ss') at ∙ (ap (λ (l : List SlotState). its ++ From (length its + 1) l) (sym is) ∙ e)))
 
   -- what holds of each new worker holds at each place
-  pub each_new : (P : It → Type 0) → ((m : ℕ) (s : SlotState) → 0 < m → IsOpen s → P (At m s)) → (m : ℕ) (ss : List SlotState) → 0 < m → AreOpen ss → (k : ℕ) (d : It) → k < length (From m ss) → P (get_or (From m ss) k d)
+  pub each_new : (P : It → Type 0) → ((m : ℕ) (s : SlotState) → 0 < m → IsOpenSlot s → P (At m s)) → (m : ℕ) (ss : List SlotState) → 0 < m → AreOpen ss → (k : ℕ) (d : It) → k < length (From m ss) → P (get_or (From m ss) k d)
   each_new P h m [] some open_ k d lt = absurd (omega (arith, lt))
   each_new P h m (s ∷ ss) some open_ zero d lt = h m s some open_.0
   each_new P h m (s ∷ ss) some open_ (suc k) d lt = each_new P h (m + 1) ss (omega (arith, some)) open_.1 k d (omega (arith, lt))
@@ -66,7 +69,7 @@ module _ (hub : TableId) (c r n : ℕ) (line : Line) where
     subst (λ (ts : List ℕ). WasServed p.first p.second p.number p.seen ts []) (sym turns) (served_none p.first p.second p.number p.seen (ap (steps_by seat_of p.number) seen)),
   )
 
-  pub fits_new : IsLegal c r [] → r ≤ 65536 → (m : ℕ) (s : SlotState) → 0 < m → IsOpen s → FitsHub hub (new_worker (new_pass hub c r n m) s.door s.crossed)
+  pub fits_new : IsLegal c r [] → r ≤ 65536 → (m : ℕ) (s : SlotState) → 0 < m → IsOpenSlot s → FitsHub hub (new_worker (new_pass hub c r n m) s.door s.crossed)
   fits_new legal room m s some open_ =
       let a = open_.links in let b = open_.faults in let e = open_.crossed in (
         s.door,
@@ -104,6 +107,6 @@ module _ (hub : TableId) (c r n : ℕ) (line : Line) where
   pub ran_of : (ss : List SlotState) (olds its : List It) → olds ≡ From 1 ss → length its ≡ length olds → ((k : ℕ) (d : It) → k < length olds → Run (get_or olds k d) (get_or its k d)) → HaveRun hub c r n line 1 ss its
   ran_of ss olds its is len h = have_run 1 ss its (len ∙ ap length is) (subst (λ (l : List It). (k : ℕ) (d : It) → k < length l → Run (get_or l k d) (get_or its k d)) is h)
 
-pub length-slots : {D G : Type 0} (state : D → DoorState) (crossings : G → ℕ) (slots : List (Slot D G)) → length (slots_of state crossings slots) ≡ length slots
+pub length-slots : {D G : Type 0} (state : D → DoorState) (crossings : G → ℕ) (slots : List (Slot D G)) → length (slot_states state crossings slots) ≡ length slots
 length-slots state crossings [] = refl
 length-slots state crossings (s ∷ slots) = let h = length-slots state crossings slots in omega (arith, h)

@@ -15,7 +15,7 @@ use Rattle.omos_hub.specs.Turns.{Turn, Moves, OthersAdd, lengths, left_by}
 use Rattle.omos_hub.specs.Standing.{Standing, Went, seen_by}
 use Rattle.omos_session.specs.Session.{IsSession}
 use Rattle.omos_session.specs.Talk.{turns_of}
-use Rattle.omosd_slots.specs.Visits.{Climbs, Visit, IsVisit, AreVisits, WasServed, HasCause, coming, going, seated, HasVisit}
+use Rattle.omosd_slots.specs.Visits.{Climbs, SlotVisit, IsVisit, AreVisits, WasServed, HasCause, coming, going, seated, HasVisit}
 use Rattle.omos_session.specs.declared.session.SessionEnd.{SessionEnd}
 use Rattle.omos_session.specs.declared.session.SessionEnd.TheVariants as ending
 
@@ -43,15 +43,15 @@ moves_climb seat old (t ∷ ts) new m =
 -- ---- one more link
 
 module _ (c r seat : ℕ) where
-  visits_more : (first : List Step) (vs : List Visit) (mid : List Step) (v : Visit) → AreVisits c r seat first vs mid → v.before ≡ mid → IsVisit c r seat v → AreVisits c r seat first (vs ++ v ∷ []) v.after
+  visits_more : (first : List Step) (vs : List SlotVisit) (mid : List Step) (v : SlotVisit) → AreVisits c r seat first vs mid → v.before ≡ mid → IsVisit c r seat v → AreVisits c r seat first (vs ++ v ∷ []) v.after
   visits_more first [] mid v h e is = (e ∙ h, is, refl)
   visits_more first (u ∷ vs) mid v h e is = (h.0, h.1, visits_more u.after vs mid v h.2 e is)
 
-  flat_map-last : (vs : List Visit) (v : Visit) → flat_map (λ (u : Visit). u.turns) (vs ++ v ∷ []) ≡ flat_map (λ (u : Visit). u.turns) vs ++ v.turns
+  flat_map-last : (vs : List SlotVisit) (v : SlotVisit) → flat_map (λ (u : SlotVisit). u.turns) (vs ++ v ∷ []) ≡ flat_map (λ (u : SlotVisit). u.turns) vs ++ v.turns
   flat_map-last [] v = append-nil v.turns
-  flat_map-last (u ∷ vs) v = ap (λ l. u.turns ++ l) (flat_map-last vs v) ∙ sym (append_assoc u.turns (flat_map (λ (w : Visit). w.turns) vs) v.turns)
+  flat_map-last (u ∷ vs) v = ap (λ l. u.turns ++ l) (flat_map-last vs v) ∙ sym (append_assoc u.turns (flat_map (λ (w : SlotVisit). w.turns) vs) v.turns)
 
-  map-last : (vs : List Visit) (v : Visit) → map (λ (u : Visit). u.link) (vs ++ v ∷ []) ≡ map (λ (u : Visit). u.link) vs ++ v.link ∷ []
+  map-last : (vs : List SlotVisit) (v : SlotVisit) → map (λ (u : SlotVisit). u.link) (vs ++ v ∷ []) ≡ map (λ (u : SlotVisit). u.link) vs ++ v.link ∷ []
   map-last [] v = refl
   map-last (u ∷ vs) v = ap (λ l. u.link ∷ l) (map-last vs v)
 
@@ -60,7 +60,7 @@ module _ (c r seat : ℕ) where
   served_none seen none = record { first = seen; none = none; visits = []; each = refl; turns_are = refl; links_are = refl; never_fall = omega arith }
 
   -- one more link was served
-  pub served_more : (seen : List Step) (turns : List ℕ) (links : List GivenBack) (v : Visit) → WasServed c r seat seen turns links → v.before ≡ seen → IsVisit c r seat v → Climbs (length seen) v.turns (length v.after)
+  pub served_more : (seen : List Step) (turns : List ℕ) (links : List GivenBack) (v : SlotVisit) → WasServed c r seat seen turns links → v.before ≡ seen → IsVisit c r seat v → Climbs (length seen) v.turns (length v.after)
       → WasServed c r seat v.after (turns ++ v.turns) (links ++ v.link ∷ [])
   served_more seen turns links v w e is climbs = record {
     first = w.first;

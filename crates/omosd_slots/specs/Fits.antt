@@ -19,9 +19,9 @@ pub record WorkerState : Type 0 where
   pub stopped : Bool
   pub failed : Bool
 
-abbrev pub one_if : Bool → ℕ
-one_if true = 1
-one_if false = 0
+abbrev pub one_where : Bool → ℕ
+one_where true = 1
+one_where false = 0
 
 -- how many links were given back and 1, or 0 where the door doesn't tell
 abbrev pub told_count : Option (List GivenBack) → ℕ
@@ -29,10 +29,10 @@ told_count None = 0
 told_count (Some links) = length links + 1
 
 -- a worker goes on; or it has stopped, since no more links come or since its door failed
-abbrev pub Stands : DoorState → DoorState → Bool → Bool → Type 0
-Stands start door false failed =
+abbrev pub GoesOnOrStops : DoorState → DoorState → Bool → Bool → Type 0
+GoesOnOrStops start door false failed =
     (door.is_shut ≡ false) × (door.faults ≡ start.faults) × (failed ≡ false)
-Stands start door true failed =
+GoesOnOrStops start door true failed =
     ((door.is_shut ≡ true) × (door.faults ≡ start.faults) × (failed ≡ false))
     ⊎ ((door.is_shut ≡ false) × (door.faults ≡ start.faults + 1) × (failed ≡ true))
 
@@ -46,7 +46,7 @@ HasBack pass None (Some now) count = ⊥
 HasBack pass (Some before) None count = ⊥
 
 -- a worker of this hub, between its calls
-pub record Fits (hub : TableId) (pass : Knowledge Step) (start door : DoorState)
+pub record IsWorkerOf (hub : TableId) (pass : Knowledge Step) (start door : DoorState)
     (crossed calls links : ℕ) (stopped failed : Bool) : Type 0 where
   pub lock : pass.lock ≡ hub
   pub idle : pass.holds_turn ≡ false
@@ -59,8 +59,8 @@ pub record Fits (hub : TableId) (pass : Knowledge Step) (start door : DoorState)
   pub links_low : door.links < 2 ^ 62 + calls
   pub faults_low : door.faults < 2 ^ 62 + calls
   pub links_are : door.links ≡ start.links + links
-  pub calls_are : calls ≡ links + one_if stopped
-  pub stands : Stands start door stopped failed
+  pub calls_are : calls ≡ links + one_where stopped
+  pub stands : GoesOnOrStops start door stopped failed
   pub back : HasBack pass start.back door.back links
 
 -- the numbers of a pass and of a door at the start
@@ -78,11 +78,11 @@ told_before (Some links) count = (length links + 1) - count
 abbrev pub kept_of : WorkerState → List ℕ
 kept_of w =
     w.pass.number ∷ w.pass.made ∷ w.pass.first ∷ w.pass.second ∷ (w.door.links - w.links)
-    ∷ (w.door.faults - one_if w.failed) ∷ told_before w.door.back w.links ∷ []
+    ∷ (w.door.faults - one_where w.failed) ∷ told_before w.door.back w.links ∷ []
 
 -- since its door was so
 abbrev pub FitsFrom : TableId → DoorState → WorkerState → Type 0
-FitsFrom hub start w = Fits hub w.pass start w.door w.crossed w.calls w.links w.stopped w.failed
+FitsFrom hub start w = IsWorkerOf hub w.pass start w.door w.crossed w.calls w.links w.stopped w.failed
 
 abbrev pub FitsHub : TableId → WorkerState → Type 0
 FitsHub hub w = (start : DoorState) × FitsFrom hub start w

@@ -4,7 +4,8 @@ use Rattle.std.specs.Prelude.{List, [], ◌∷◌, ◌++◌, length, map, drop, 
 use Rattle.turn_lock.specs.Steps.{GoesOn, AllBelow, steps_by}
 use Rattle.turn_lock.specs.Knowledge.{TableId, Knowledge}
 use Rattle.omos_outside.specs.Links.{DoorState, GivenBack, HasOut}
-use Rattle.worker_line.specs.Drawn.{Line, Drawn, DrewOn, Tells, newcomer}
+use Rattle.worker_line.specs.Drawn.{Line, Drawn, DrewOn}
+use Rattle.worker_line.specs.Drawn.{TellsOfSeat, new_seat}
 use Rattle.worker_line.specs.declared.workers.Seated.{Seated}
 use Rattle.history_book.specs.declared.step.Step.{Step}
 use Rattle.hub_store.specs.Parts.{StoreParts}
@@ -13,25 +14,26 @@ use Rattle.history_book.specs.Legal.{IsLegal}
 use Rattle.omos_hub.specs.Passes.{new_pass}
 use Rattle.omosd_slots.specs.Visits.{WasServed}
 use Rattle.omosd_slots.specs.declared.slot.Slot.{Slot}
-use Rattle.omosd_slots.specs.Fits.{WorkerState, FitsHub, Stands, kept_of, one_if}
+use Rattle.omosd_slots.specs.Fits.{WorkerState, FitsHub, kept_of}
+use Rattle.omosd_slots.specs.Fits.{GoesOnOrStops, one_where}
 
 pub record SlotState : Type 0 where
   pub door : DoorState
   pub crossed : ℕ
 
 -- the states of slots
-abbrev pub slots_of : {D G : Type 0} → (D → DoorState) → (G → ℕ) → List (Slot D G) → List SlotState
-slots_of state crossings slots =
+abbrev pub slot_states : {D G : Type 0} → (D → DoorState) → (G → ℕ) → List (Slot D G) → List SlotState
+slot_states state crossings slots =
     map (λ s. record { door = state s.door; crossed = crossings s.gate }) slots
 
-abbrev pub total : {A : Type 0} → (A → ℕ) → List A → ℕ
-total f [] = 0
-total f (x ∷ xs) = f x + total f xs
+abbrev pub slots_total : {A : Type 0} → (A → ℕ) → List A → ℕ
+slots_total f [] = 0
+slots_total f (x ∷ xs) = f x + slots_total f xs
 
 -- ---- at the start
 
 -- a door that isn't shut, and counts that have room
-pub record IsOpen (s : SlotState) : Type 0 where
+pub record IsOpenSlot (s : SlotState) : Type 0 where
   pub open_is : s.door.is_shut ≡ false
   pub links : s.door.links < 4611686018427387904
   pub faults : s.door.faults < 4611686018427387904
@@ -39,7 +41,7 @@ pub record IsOpen (s : SlotState) : Type 0 where
 
 abbrev pub AreOpen : List SlotState → Type 0
 AreOpen [] = Unit {0}
-AreOpen (s ∷ slots) = IsOpen s × AreOpen slots
+AreOpen (s ∷ slots) = IsOpenSlot s × AreOpen slots
 
 -- a worker with this pass, a door and a gate, which wasn't called yet
 abbrev pub new_worker : Knowledge Step → DoorState → ℕ → WorkerState
@@ -54,14 +56,14 @@ new_worker pass door crossed = record {
 }
 
 -- the seat got no more numbers than there are; and where it got none, a look has told of it
-abbrev pub IsTold : Drawn → Type 0
-IsTold d = (length d.got ≤ d.line.sessions) × (0 < d.missed → Tells d)
+abbrev pub IsSeatTold : Drawn → Type 0
+IsSeatTold d = (length d.got ≤ d.line.sessions) × (0 < d.missed → TellsOfSeat d)
 
 module _ (hub : TableId) (cache room count : ℕ) (line : Line) where
   -- the worker with the pass of this number
   abbrev pub seated_at : ℕ → SlotState → Seated WorkerState
   seated_at number s = record {
-    seat = newcomer line count 1;
+    seat = new_seat line count 1;
     worker = new_worker (new_pass hub cache room count number) s.door s.crossed;
   }
 
@@ -71,19 +73,19 @@ module _ (hub : TableId) (cache room count : ℕ) (line : Line) where
   seated_from number (s ∷ slots) = seated_at number s ∷ seated_from (number + 1) slots
 
   -- the worker of this slot once it has run
-  pub record HasRun (number : ℕ) (s : SlotState) (it : Seated WorkerState) : Type 0 where
-    pub seat : DrewOn (newcomer line count 1) it.seat
+  pub record HasRunSlot (number : ℕ) (s : SlotState) (it : Seated WorkerState) : Type 0 where
+    pub seat : DrewOn (new_seat line count 1) it.seat
     pub calls_is : it.worker.calls ≡ length it.seat.got
     pub kept_is : kept_of it.worker ≡ kept_of (seated_at number s).worker
     pub fits : FitsHub hub it.worker
     pub ended : (it.seat.missed ≡ 1) ⊎ (it.worker.stopped ≡ true)
-    pub told : IsTold it.seat
+    pub told : IsSeatTold it.seat
 
   abbrev pub HaveRun : ℕ → List SlotState → List (Seated WorkerState) → Type 0
   HaveRun number [] [] = Unit {0}
   HaveRun number (s ∷ slots) [] = ⊥
   HaveRun number [] (it ∷ its) = ⊥
-  HaveRun number (s ∷ slots) (it ∷ its) = HasRun number s it × HaveRun (number + 1) slots its
+  HaveRun number (s ∷ slots) (it ∷ its) = HasRunSlot number s it × HaveRun (number + 1) slots its
 
 -- the slot of a worker
 abbrev pub slot_of : Seated WorkerState → SlotState
@@ -99,28 +101,28 @@ abbrev pub links_of : Seated WorkerState → ℕ
 links_of it = it.worker.links
 
 abbrev pub failed_of : Seated WorkerState → ℕ
-failed_of it = one_if it.worker.failed
+failed_of it = one_where it.worker.failed
 
 abbrev pub got_of : Drawn → ℕ
 got_of d = length d.got
 
-abbrev pub missed_of : Drawn → ℕ
-missed_of d = d.missed
+abbrev pub seat_missed : Drawn → ℕ
+seat_missed d = d.missed
 
-abbrev pub parts_of : Drawn → ℕ
-parts_of d = d.parts
+abbrev pub seat_parts : Drawn → ℕ
+seat_parts d = d.parts
 
 -- the seat draws from this counter, which so many workers share
-abbrev pub IsOf : Line → ℕ → Drawn → Type 0
-IsOf line workers d = (d.line ≡ line) × (d.workers ≡ workers)
+abbrev pub DrawsFrom : Line → ℕ → Drawn → Type 0
+DrawsFrom line workers d = (d.line ≡ line) × (d.workers ≡ workers)
 
 -- all seats of a counter have got no more numbers than there are, and all of them where one got
 -- none
 pub record TellAll (line : Line) (workers : ℕ) (seats : List Drawn) : Type 0 where
-  pub within : total got_of seats ≤ line.sessions
+  pub within : slots_total got_of seats ≤ line.sessions
   pub all :
-      total parts_of seats ≡ workers → 0 < total missed_of seats
-      → total got_of seats ≡ line.sessions
+      slots_total seat_parts seats ≡ workers → 0 < slots_total seat_missed seats
+      → slots_total got_of seats ≡ line.sessions
 
 -- ---- at the end
 
@@ -140,7 +142,7 @@ ServedBack cache room steps number count (Some before) (Some now) =
     × (seen : List Step) × GoesOn seat_of (number ∷ []) seen steps
     × (turns : List ℕ) × WasServed cache room number seen turns (drop (length before) now)
 
-pub record IsServed (cache room : ℕ) (steps : List Step) (number : ℕ)
+pub record IsServedSlot (cache room : ℕ) (steps : List Step) (number : ℕ)
     (before after : DoorState) : Type 0 where
   pub links : before.links ≤ after.links
   pub faults : before.faults ≤ after.faults
@@ -152,7 +154,7 @@ AreServed cache room steps number [] [] = Unit {0}
 AreServed cache room steps number (b ∷ before) [] = ⊥
 AreServed cache room steps number [] (a ∷ after) = ⊥
 AreServed cache room steps number (b ∷ before) (a ∷ after) =
-    IsServed cache room steps number b.door a.door
+    IsServedSlot cache room steps number b.door a.door
     × AreServed cache room steps (number + 1) before after
 
 -- how many links the doors handed out in all
@@ -166,14 +168,14 @@ abbrev pub stopped_between : List SlotState → List SlotState → ℕ
 stopped_between [] after = 0
 stopped_between (b ∷ before) [] = 0
 stopped_between (b ∷ before) (a ∷ after) =
-    one_if (is_stopped b.door a.door) + stopped_between before after
+    one_where (is_stopped b.door a.door) + stopped_between before after
 
 -- how many doors failed
 abbrev pub failed_between : List SlotState → List SlotState → ℕ
 failed_between [] after = 0
 failed_between (b ∷ before) [] = 0
 failed_between (b ∷ before) (a ∷ after) =
-    one_if (nat_lt b.door.faults a.door.faults) + failed_between before after
+    one_where (nat_lt b.door.faults a.door.faults) + failed_between before after
 
 -- the slots served so many links, and this store was closed
 pub record Ran (cache room sessions : ℕ) (before after : List SlotState) (served : ℕ)

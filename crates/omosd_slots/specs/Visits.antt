@@ -19,7 +19,7 @@ Climbs low (n ∷ ns) high = (low ≤ n) × Climbs n ns high
 
 -- a link that was served: what was seen of the record before and after, the lengths that it had at
 -- the turns, and the link as it was given back
-pub record Visit : Type 0 where
+pub record SlotVisit : Type 0 where
   pub before : List Step
   pub after : List Step
   pub turns : List ℕ
@@ -52,7 +52,7 @@ module _ (cache room seat : ℕ) where
   }
 
   -- a session took what the link's source gave, and wrote what its sink holds
-  pub record IsVisit (v : Visit) : Type 0 where
+  pub record IsVisit (v : SlotVisit) : Type 0 where
     pub end : SessionEnd
     pub session :
         IsSession false (seated v.before []) (seated v.after v.turns) (Some (coming v.link))
@@ -60,7 +60,7 @@ module _ (cache room seat : ℕ) where
     pub cause : HasCause end v.link
 
   -- one after the other, from what was seen at first to what is seen at last
-  abbrev pub AreVisits : List Step → List Visit → List Step → Type 0
+  abbrev pub AreVisits : List Step → List SlotVisit → List Step → Type 0
   AreVisits first [] last = last ≡ first
   AreVisits first (v ∷ vs) last = (v.before ≡ first) × IsVisit v × AreVisits v.after vs last
 
@@ -69,10 +69,10 @@ module _ (cache room seat : ℕ) where
   pub record WasServed (seen : List Step) (turns : List ℕ) (links : List GivenBack) : Type 0 where
     pub first : List Step
     pub none : steps_by seat_of seat first ≡ []
-    pub visits : List Visit
+    pub visits : List SlotVisit
     pub each : AreVisits first visits seen
-    pub turns_are : turns ≡ flat_map (λ (v : Visit). v.turns) visits
-    pub links_are : links ≡ map (λ (v : Visit). v.link) visits
+    pub turns_are : turns ≡ flat_map (λ (v : SlotVisit). v.turns) visits
+    pub links_are : links ≡ map (λ (v : SlotVisit). v.link) visits
     pub never_fall : Climbs (length first) turns (length seen)
 
 -- between the two a link was served: the pass had these turns more, and a visit

@@ -3,9 +3,10 @@
 ghost use Rattle.std.specs.Prelude.{◌≡◌, ◌<◌, ◌≤◌, [], length, map, vec_capacity, All, IfOk, OnErr};
 ghost use Rattle.worker_line.specs.Drawn.{IsNew};
 ghost use Rattle.omos_hub.specs.Passes.{AreNew};
-ghost use Rattle.omosd_slots.specs.Slots.{slots_of, seated_from, slot_of, pass_of, draws_of};
-ghost use Rattle.omosd_slots.specs.Slots.{links_of, failed_of, total, AreOpen, IsOf, IsTold};
+ghost use Rattle.omosd_slots.specs.Slots.{seated_from, slot_of, pass_of, draws_of};
+ghost use Rattle.omosd_slots.specs.Slots.{links_of, failed_of, AreOpen};
 ghost use Rattle.omosd_slots.specs.Slots.{TellAll, Ran};
+ghost use Rattle.omosd_slots.specs.Slots.{DrawsFrom, IsSeatTold, slot_states, slots_total};
 
 use crate::moves::take_first;
 use crate::slot::Slot;
@@ -46,11 +47,11 @@ where
     D::Out: Send,
     requires slots { (1 ≤ length slots.old.items) × (length slots.old.items ≤ 16) }
     requires sessions { (1 ≤ sessions) × (sessions ≤ 1000000) }
-    requires doors { AreOpen (slots_of D.state G.crossings slots.old.items) }
+    requires doors { AreOpen (slot_states D.state G.crossings slots.old.items) }
     ensures kept { OnErr result (slots.new.items ≡ slots.old.items) }
     ensures ran { IfOk result (λ r. Ran limits.cache limits.steps sessions
-        (slots_of D.state G.crossings slots.old.items)
-        (slots_of D.state G.crossings slots.new.items) r.sessions r.failed r.store) }
+        (slot_states D.state G.crossings slots.old.items)
+        (slot_states D.state G.crossings slots.new.items) r.sessions r.failed r.store) }
 {
     // What the limits keep.
     let _steps = limits.steps();
@@ -100,7 +101,7 @@ fn seat_all<'a, R: Wait, D: Door + Drop, G: Gate + Drop>(
         × (length slots.old.items ≤ vec_capacity seated.old) }
     ensures seated { seated.new.items
         ≡ seated_from hub.now limits.cache limits.steps (length slots.old.items) draws.now 1
-        (slots_of D.state G.crossings slots.old.items) }
+        (slot_states D.state G.crossings slots.old.items) }
     ensures slots { (slots.new.items ≡ []) × (vec_capacity slots.new ≡ vec_capacity slots.old) }
     ensures passes { (passes.new.items ≡ []) × (vec_capacity passes.new ≡ vec_capacity passes.old) }
     ensures seats { (seats.new.items ≡ []) × (vec_capacity seats.new ≡ vec_capacity seats.old) }
@@ -128,11 +129,11 @@ fn unseat_all<R: Wait, D: Door + Drop, G: Gate + Drop>(
         × (length seated.old.items ≤ vec_capacity passes.old) }
     requires seats { (seats.old.items ≡ [])
         × (length seated.old.items ≤ vec_capacity seats.old) }
-    ensures slots { slots_of D.state G.crossings slots.new.items ≡ map slot_of seated.old.items }
+    ensures slots { slot_states D.state G.crossings slots.new.items ≡ map slot_of seated.old.items }
     ensures passes { passes.new.items ≡ map pass_of seated.old.items }
     ensures seats { seats.new.items ≡ map draws_of seated.old.items }
-    ensures links { result.0 ≡ total links_of seated.old.items }
-    ensures failed { result.1 ≡ total failed_of seated.old.items }
+    ensures links { result.0 ≡ slots_total links_of seated.old.items }
+    ensures failed { result.1 ≡ slots_total failed_of seated.old.items }
 {
     let mut links = 0u64;
     let mut failed = 0u64;
@@ -151,8 +152,8 @@ fn unseat_all<R: Wait, D: Door + Drop, G: Gate + Drop>(
 // What all seats have drawn together.
 fn tell_all(draws: &Draws, mut seats: Vec<DrawSeat>, workers: u32)
     requires some { 0 < length seats.items }
-    requires each { All (IsOf draws.now workers) seats.items }
-    requires told { All IsTold seats.items }
+    requires each { All (DrawsFrom draws.now workers) seats.items }
+    requires told { All IsSeatTold seats.items }
     ensures { TellAll draws.now workers seats.items }
 {
     let mut all = take_first(&mut seats);

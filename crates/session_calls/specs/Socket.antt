@@ -30,8 +30,8 @@ if_workers slots (Some said) = if said.workers == slots then Some said else None
 if_workers slots None = None
 
 -- what the words say, where there are as many slots as workers
-abbrev pub said_of : List (List ℕ) → ℕ → Option SocketWords
-said_of words slots = if_workers slots (socket_words words)
+abbrev pub socket_said : List (List ℕ) → ℕ → Option SocketWords
+socket_said words slots = if_workers slots (socket_words words)
 
 -- The words say limits, workers and sessions. The workers ran, the hub was
 -- closed, and the line of its totals was written, or a part of it where the sink failed.

@@ -9,15 +9,15 @@ use Rattle.omos_session.specs.declared.session.SessionEnd.{SessionEnd}
 use Rattle.omos_session.specs.declared.session.SessionEnd.TheVariants as ending
 
 -- the status that tells how a session ended
-abbrev pub status_of : SessionEnd → ℕ
-status_of ending.Ended = 0
-status_of ending.Closed = 0
-status_of (ending.Truncated count) = 5
-status_of (ending.BadFrame place cause) = 5
-status_of ending.ReadFault = 3
-status_of ending.WriteFault = 4
-status_of ending.TooMany = 6
-status_of ending.NoMemory = 8
+abbrev pub session_status : SessionEnd → ℕ
+session_status ending.Ended = 0
+session_status ending.Closed = 0
+session_status (ending.Truncated count) = 5
+session_status (ending.BadFrame place cause) = 5
+session_status ending.ReadFault = 3
+session_status ending.WriteFault = 4
+session_status ending.TooMany = 6
+session_status ending.NoMemory = 8
 
 -- seat 1, with an empty store of these limits
 abbrev pub alone_with : Limits → Standing
@@ -32,4 +32,4 @@ pub record HasServed (status : ℕ) (said : Option Limits) (told told' : Option 
   pub new : Standing
   pub end : SessionEnd
   pub session : IsSession true (alone_with limits) new told told' held held' end
-  pub status_is : status ≡ status_of end
+  pub status_is : status ≡ session_status end

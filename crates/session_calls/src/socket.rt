@@ -3,8 +3,10 @@
 ghost use Rattle.std.specs.Prelude.{◌≡◌, ◌↔◌, ◌⊎◌, IfSome, None, length, map, string_bytes};
 ghost use Rattle.command_words.specs.Words.{AreWithin};
 ghost use Rattle.omos_outside.specs.Faults.{Rose};
-ghost use Rattle.omosd_slots.specs.Slots.{AreOpen, slots_of};
-ghost use Rattle.session_calls.specs.Socket.{HasRun, said_of, status_by};
+ghost use Rattle.omosd_slots.specs.Slots.{AreOpen};
+ghost use Rattle.omosd_slots.specs.Slots.{slot_states};
+ghost use Rattle.session_calls.specs.Socket.{HasRun, status_by};
+ghost use Rattle.session_calls.specs.Socket.{socket_said};
 
 use crate::totals::totals_line;
 use command_words::{SocketWords, socket_words};
@@ -29,7 +31,7 @@ fn status_by(failed: bool, answer: Sent) -> u8
 
 /// What the words say of so many slots.
 fn said_of(words: &[String], slots: usize) -> Option<SocketWords>
-    ensures said { result ≡ said_of (map string_bytes words.now) slots }
+    ensures said { result ≡ socket_said (map string_bytes words.now) slots }
     ensures within { IfSome result (λ w. AreWithin w × (w.workers ≡ slots)) }
 {
     let said = socket_words(words)?;
@@ -65,11 +67,11 @@ pub fn omosd_socket<
 where
     D::In: Send,
     D::Out: Send,
-    requires doors { AreOpen (slots_of D.state G.crossings slots.old.items) }
+    requires doors { AreOpen (slot_states D.state G.crossings slots.old.items) }
 
     // The words alone decide, and then no door is asked and nothing is written.
     ensures usage { (result ≡ 2)
-        ↔ (said_of (map string_bytes words.now) (length slots.old.items) ≡ None) }
+        ↔ (socket_said (map string_bytes words.now) (length slots.old.items) ≡ None) }
     ensures idle { result ≡ 2 → (slots.new.items ≡ slots.old.items) × (sink.new ≡ sink.old) }
 
     // There was no memory, and the same holds.
@@ -77,9 +79,9 @@ where
 
     // Else the workers ran, and the line says counts over the closed, legal record.
     ensures ran { (result ≡ 2) ⊎ (result ≡ 8)
-        ⊎ HasRun result (said_of (map string_bytes words.now) (length slots.old.items))
-        (slots_of D.state G.crossings slots.old.items)
-        (slots_of D.state G.crossings slots.new.items) (K.held sink.old) (K.held sink.new) }
+        ⊎ HasRun result (socket_said (map string_bytes words.now) (length slots.old.items))
+        (slot_states D.state G.crossings slots.old.items)
+        (slot_states D.state G.crossings slots.new.items) (K.held sink.old) (K.held sink.new) }
 
     // The sink failed in this call.
     ensures sink_failed { result ≡ 4 → Rose (K.faults sink.old) (K.faults sink.new) }

@@ -3,7 +3,8 @@
 ghost use Rattle.std.specs.Prelude.{◌≡◌, ◌↔◌, ◌⊎◌, None, map, string_bytes};
 ghost use Rattle.omos_outside.specs.Faults.{Rose};
 ghost use Rattle.command_words.specs.Words.{stdio_words};
-ghost use Rattle.session_calls.specs.Stdio.{HasServed, status_of};
+ghost use Rattle.session_calls.specs.Stdio.{HasServed};
+ghost use Rattle.session_calls.specs.Stdio.{session_status};
 
 use command_words::stdio_words;
 use hub_store::Store;
@@ -15,7 +16,7 @@ use std::alloc::Global;
 
 /// The status that tells how a session ended.
 fn status_of(end: SessionEnd) -> u8
-    ensures { result ≡ status_of end }
+    ensures { result ≡ session_status end }
 {
     match end {
         SessionEnd::Ended | SessionEnd::Closed => 0,

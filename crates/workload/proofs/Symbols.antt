@@ -5,17 +5,18 @@ use Rattle.std.proofs.Common.{arith, ap, sym, ◌∙◌}
 use Rattle.std.proofs.lemmas.List.{append-nil, drop_all}
 use Rattle.elf_words.specs.Sym.{sym_bytes}
 use Rattle.workload.specs.declared.plain.PlainSymbol.{PlainSymbol}
-use Rattle.workload.specs.Tables.{terminated, string_table, sym_of, symbols_from, symbol_table}
+use Rattle.workload.specs.Tables.{terminated, string_table, sym_of, symbols_from}
+use Rattle.workload.specs.Tables.{symbol_entries}
 
 -- the tables of so many symbols, of which the rest are still to come
 pub record Stand (symbols : List PlainSymbol) (count : ℕ) (table strings : List ℕ) : Type 0 where
   pub table_to_come :
-      table ++ symbols_from (length strings) (drop count symbols) ≡ symbol_table symbols
+      table ++ symbols_from (length strings) (drop count symbols) ≡ symbol_entries symbols
   pub strings_to_come : strings ++ terminated (drop count symbols) ≡ string_table symbols
 
 -- before the first symbol
 pub stand_first : (symbols : List PlainSymbol) (table strings : List ℕ)
-    → table ++ symbols_from 1 symbols ≡ symbol_table symbols → strings ≡ 0 ∷ []
+    → table ++ symbols_from 1 symbols ≡ symbol_entries symbols → strings ≡ 0 ∷ []
     → Stand symbols 0 table strings
 stand_first symbols table strings same first =
     rw first record { table_to_come = same; strings_to_come = refl }
@@ -45,7 +46,7 @@ stand_more symbols count symbol table strings within is before =
 
 -- after the last
 pub stood_table : (symbols : List PlainSymbol) (count : ℕ) (table strings : List ℕ)
-    → length symbols ≤ count → Stand symbols count table strings → table ≡ symbol_table symbols
+    → length symbols ≤ count → Stand symbols count table strings → table ≡ symbol_entries symbols
 stood_table symbols count table strings all s =
     sym (append-nil table) ∙ (rw (drop_all count symbols all) at s.table_to_come)
 

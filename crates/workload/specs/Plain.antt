@@ -7,8 +7,9 @@ use Rattle.workload.specs.declared.plain.PlainRela.{PlainRela}
 use Rattle.workload.specs.declared.plain.PlainSymbol.{PlainSymbol}
 use Rattle.workload.specs.declared.plan.Plan.{Plan}
 use Rattle.workload.specs.Headers.{file_header, section_headers}
-use Rattle.workload.specs.Plan.{plan_of}
-use Rattle.workload.specs.Tables.{rela_table, string_table, symbol_table}
+use Rattle.workload.specs.Tables.{rela_table, string_table}
+use Rattle.workload.specs.Tables.{symbol_entries}
+use Rattle.workload.specs.Plan.{object_plan}
 
 -- the bytes, filled up with zeros to this place, and then the part
 abbrev pub placed : ℕ → List ℕ → List ℕ → List ℕ
@@ -17,7 +18,7 @@ placed place bytes part = bytes ++ zeros (place - length bytes) ++ part
 -- where the parts of the object lie
 abbrev pub plain_plan : List ℕ → List PlainSymbol → List PlainRela → Plan
 plain_plan code symbols relas =
-    plan_of (length code) (length (rela_table relas)) (length (symbol_table symbols))
+    object_plan (length code) (length (rela_table relas)) (length (symbol_entries symbols))
     (length (string_table symbols))
 
 -- the object with this code, aligned so, these symbols from number 1 on, and these relocations
@@ -26,7 +27,7 @@ plain_bytes code align symbols relas =
     let plan = plain_plan code symbols relas in
     let with_code = ehdr_bytes (file_header plan.headers) ++ code in
     let with_relas = placed plan.relas.offset with_code (rela_table relas) in
-    let with_symbols = placed plan.symbols.offset with_relas (symbol_table symbols) in
+    let with_symbols = placed plan.symbols.offset with_relas (symbol_entries symbols) in
     let with_strings = placed plan.strings.offset with_symbols (string_table symbols) in
     placed plan.headers with_strings (section_headers plan align)
 

@@ -8,8 +8,8 @@ next_eight size = (size + 7) / 8 * 8
 
 -- Section 1 begins behind the ELF header, each other section at the next multiple of 8 after the
 -- one before, and the section headers at the next multiple of 8 after the last.
-unfoldable pub plan_of : ℕ → ℕ → ℕ → ℕ → Plan
-plan_of code relas symbols strings =
+unfoldable pub object_plan : ℕ → ℕ → ℕ → ℕ → Plan
+object_plan code relas symbols strings =
     let relas_at = next_eight (64 + code) in
     let symbols_at = next_eight (relas_at + relas) in
     let strings_at = next_eight (symbols_at + symbols) in

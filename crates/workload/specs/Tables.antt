@@ -67,5 +67,5 @@ symbols_from place (symbol ∷ symbols) =
     ++ symbols_from (place + length symbol.name + 1) symbols
 
 -- symbol 0 is all zeros; the names of the others begin behind the first zero byte
-abbrev pub symbol_table : List PlainSymbol → List ℕ
-symbol_table symbols = sym_bytes no_symbol ++ symbols_from 1 symbols
+abbrev pub symbol_entries : List PlainSymbol → List ℕ
+symbol_entries symbols = sym_bytes no_symbol ++ symbols_from 1 symbols

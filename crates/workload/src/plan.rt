@@ -1,7 +1,8 @@
 //! Where the parts of a plain object lie in its file.
 
 ghost use Rattle.std.specs.Prelude.{◌≡◌, ◌<◌, ◌^◌};
-ghost use Rattle.workload.specs.Plan.{next_eight, plan_of};
+ghost use Rattle.workload.specs.Plan.{next_eight};
+ghost use Rattle.workload.specs.Plan.{object_plan};
 
 /// A section's bytes in the file.
 #[derive(Clone, Copy, Debug, PartialEq, Eq)]
@@ -36,13 +37,13 @@ fn next_multiple(size: u64) -> u64
 }
 
 /// The plan for parts of these sizes.
-#[tactic(auto, unfolding(crate::specs::Plan::plan_of))]
+#[tactic(auto, unfolding(crate::specs::Plan::object_plan))]
 pub(crate) fn plan_for(code: u64, relas: u64, symbols: u64, strings: u64) -> Plan
     requires code_small { code < 2 ^ 32 }
     requires relas_small { relas < 2 ^ 32 }
     requires symbols_small { symbols < 2 ^ 32 }
     requires strings_small { strings < 2 ^ 32 }
-    ensures { result ≡ plan_of code relas symbols strings }
+    ensures { result ≡ object_plan code relas symbols strings }
 {
     let relas_at = next_multiple(64 + code);
     let symbols_at = next_multiple(relas_at + relas);

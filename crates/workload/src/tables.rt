@@ -1,7 +1,8 @@
 //! The tables of a plain object: relocations, symbols and names.
 
 ghost use Rattle.std.specs.Prelude.{◌≡◌, ◌≤◌, length, IfOk};
-ghost use Rattle.workload.specs.Tables.{rela_of, rela_table, string_table, sym_of, symbol_table};
+ghost use Rattle.workload.specs.Tables.{rela_of, rela_table, string_table, sym_of};
+ghost use Rattle.workload.specs.Tables.{symbol_entries};
 
 use crate::plain::{PlainRela, PlainSymbol};
 use elf_words::{Rela, Sym, push_record};
@@ -62,7 +63,7 @@ fn sym_for(name: u32, offset: Option<u32>) -> Sym
 /// The tables of the symbols and of their names.
 pub(crate) fn symbols_of(alloc: Global, symbols: &[PlainSymbol]) -> Result<(Bytes, Bytes), NoMemory>
     requires small { length (string_table symbols.now) ≤ 1048576 }
-    ensures table { IfOk result (λ made. made.0 ≡ symbol_table symbols.now) }
+    ensures table { IfOk result (λ made. made.0 ≡ symbol_entries symbols.now) }
     ensures strings { IfOk result (λ made. made.1 ≡ string_table symbols.now) }
 {
     let mut table = Bytes::new(alloc);

@@ -4,25 +4,27 @@ use Rattle.std.proofs.lemmas.Grind.{flat_map-append}
 use Rattle.std.proofs.lemmas.List.{map-append}
 use Rattle.std.specs.List.{AllByRecursion, flat_map}
 use Rattle.omos_model.specs.Numbers.{numbers_from}
-use Rattle.omos_wire.specs.Message.{Fits, Message, frame}
+use Rattle.omos_wire.specs.Message.{Message, frame}
+use Rattle.omos_wire.specs.Message.{HasFrame}
 use Rattle.std.specs.Prelude.{codes, decimal}
-use Rattle.workload_calls.specs.Stream.{Adds, object_path, operands}
+use Rattle.workload_calls.specs.Stream.{object_path, operands}
+use Rattle.workload_calls.specs.Stream.{AddsFrames}
 
 all_both : {X : Type 0} (P : X → Type 0) (xs ys : List X) → AllByRecursion P xs → AllByRecursion P ys → AllByRecursion P (xs ++ ys)
 all_both P [] ys a b = b
 all_both P (x ∷ xs) ys a b = (a.0, all_both P xs ys a.1 b)
 
 -- nothing was added
-pub adds_none : (old : List ℕ) → Adds old old []
+pub adds_none : (old : List ℕ) → AddsFrames old old []
 adds_none old = (sym (append-nil old), tt)
 
 -- one after the other
-pub adds_then : (a b c : List ℕ) (xs ys : List Message) → Adds a b xs → Adds b c ys → Adds a c (xs ++ ys)
+pub adds_then : (a b c : List ℕ) (xs ys : List Message) → AddsFrames a b xs → AddsFrames b c ys → AddsFrames a c (xs ++ ys)
 adds_then a b c xs ys one two = (
   two.0 ∙ ap (λ (l : List ℕ). l ++ flat_map frame ys) one.0
       ∙ append_assoc a (flat_map frame xs) (flat_map frame ys)
       ∙ ap (λ (l : List ℕ). a ++ l) (sym (flat_map-append frame xs ys)),
-  all_both Fits xs ys one.1 two.1,
+  all_both HasFrame xs ys one.1 two.1,
 )
 
 pub numbers_from-last : (s c : ℕ) → numbers_from s (c + 1) ≡ numbers_from s c ++ (s + c) ∷ []
@@ -48,32 +50,32 @@ up_to i h =
 
 -- one number's request more
 pub adds_next : (f : ℕ → Message) (a b c : List ℕ) (is js : List ℕ) (i : ℕ) → js ≡ is ++ i ∷ []
-    → Adds a b (map f is) → Adds b c (f i ∷ []) → Adds a c (map f js)
+    → AddsFrames a b (map f is) → AddsFrames b c (f i ∷ []) → AddsFrames a c (map f js)
 adds_next f a b c is js i more one two =
-    subst (λ (ms : List Message). Adds a c ms) (sym (ap (map f) more ∙ map-append f is (i ∷ [])))
+    subst (λ (ms : List Message). AddsFrames a c ms) (sym (ap (map f) more ∙ map-append f is (i ∷ [])))
     (adds_then a b c (map f is) (f i ∷ []) one two)
 
 -- one number's requests more
 pub adds_more : (f : ℕ → List Message) (a b c : List ℕ) (is js : List ℕ) (i : ℕ) → js ≡ is ++ i ∷ []
-    → Adds a b (flat_map f is) → Adds b c (f i) → Adds a c (flat_map f js)
+    → AddsFrames a b (flat_map f is) → AddsFrames b c (f i) → AddsFrames a c (flat_map f js)
 adds_more f a b c is js i more one two =
-    subst (λ (ms : List Message). Adds a c ms)
+    subst (λ (ms : List Message). AddsFrames a c ms)
     (sym (ap (flat_map f) more ∙ flat_map-append f is (i ∷ []) ∙ ap (λ (ms : List Message). flat_map f is ++ ms) (append-nil (f i))))
     (adds_then a b c (flat_map f is) (f i) one two)
 
 -- all numbers' requests
 pub adds_mapped : (f : ℕ → Message) (a b c : List ℕ) (xs : List Message) (i n : ℕ) → i - 1 ≡ n - 1
-    → Adds a b xs → Adds b c (map f (numbers_from 1 (i - 1))) → Adds a c (xs ++ map f (numbers_from 1 (n - 1)))
+    → AddsFrames a b xs → AddsFrames b c (map f (numbers_from 1 (i - 1))) → AddsFrames a c (xs ++ map f (numbers_from 1 (n - 1)))
 adds_mapped f a b c xs i n same one two =
-    adds_then a b c xs (map f (numbers_from 1 (n - 1))) one (subst (λ (k : ℕ). Adds b c (map f (numbers_from 1 k))) same two)
+    adds_then a b c xs (map f (numbers_from 1 (n - 1))) one (subst (λ (k : ℕ). AddsFrames b c (map f (numbers_from 1 k))) same two)
 
 pub adds_all : (f : ℕ → List Message) (a b c : List ℕ) (xs : List Message) (i n : ℕ) → i - 1 ≡ n - 1
-    → Adds a b xs → Adds b c (flat_map f (numbers_from 1 (i - 1))) → Adds a c (xs ++ flat_map f (numbers_from 1 (n - 1)))
+    → AddsFrames a b xs → AddsFrames b c (flat_map f (numbers_from 1 (i - 1))) → AddsFrames a c (xs ++ flat_map f (numbers_from 1 (n - 1)))
 adds_all f a b c xs i n same one two =
-    adds_then a b c xs (flat_map f (numbers_from 1 (n - 1))) one (subst (λ (k : ℕ). Adds b c (flat_map f (numbers_from 1 k))) same two)
+    adds_then a b c xs (flat_map f (numbers_from 1 (n - 1))) one (subst (λ (k : ℕ). AddsFrames b c (flat_map f (numbers_from 1 k))) same two)
 
-pub adds_to : (f : ℕ → Message) (a b : List ℕ) (i n : ℕ) → i ≡ n → Adds a b (map f (numbers_from 0 i)) → Adds a b (map f (numbers_from 0 n))
-adds_to f a b i n same one = subst (λ (k : ℕ). Adds a b (map f (numbers_from 0 k))) same one
+pub adds_to : (f : ℕ → Message) (a b : List ℕ) (i n : ℕ) → i ≡ n → AddsFrames a b (map f (numbers_from 0 i)) → AddsFrames a b (map f (numbers_from 0 n))
+adds_to f a b i n same one = subst (λ (k : ℕ). AddsFrames a b (map f (numbers_from 0 k))) same one
 
 -- ---- operands
 

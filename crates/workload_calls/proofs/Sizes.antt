@@ -16,10 +16,12 @@ use Rattle.workload.specs.declared.plain.PlainSymbol.{PlainSymbol}
 use Rattle.workload.specs.declared.plan.Plan.{Plan}
 use Rattle.workload.specs.Headers.{file_header, section_headers}
 use Rattle.workload.specs.Plain.{IsSmall, plain_bytes, plain_plan, placed}
-use Rattle.workload.specs.Plan.{plan_of}
-use Rattle.workload.specs.Tables.{no_symbol, rela_of, rela_table, string_table, sym_of, symbol_table, symbols_from, terminated}
-use Rattle.workload_calls.specs.Objects.{call_code, call_of, called, function, next_of, object, start, symbols_of}
+use Rattle.workload.specs.Tables.{no_symbol, rela_of, rela_table, string_table, sym_of, symbols_from, terminated}
+use Rattle.workload.specs.Tables.{symbol_entries}
+use Rattle.workload_calls.specs.Objects.{call_code, call_of, function, object, start, symbols_of}
+use Rattle.workload_calls.specs.Objects.{called_symbol, next_object}
 use Rattle.workload_calls.proofs.Naming.{short_number}
+use Rattle.workload.specs.Plan.{object_plan}
 
 -- ---- records
 
@@ -51,7 +53,7 @@ length-symbols place (s ∷ ss) =
     let next : ℕ = place + length s.name + 1 in
     omega (arith, length-append (sym_bytes (sym_of place s.offset)) (symbols_from next ss), length-sym (sym_of place s.offset), length-symbols next ss)
 
-length-table : (ss : List PlainSymbol) → length (symbol_table ss) ≡ 24 + 24 * length ss
+length-table : (ss : List PlainSymbol) → length (symbol_entries ss) ≡ 24 + 24 * length ss
 length-table ss = omega (arith, length-append (sym_bytes no_symbol) (symbols_from 1 ss), length-sym no_symbol, length-symbols 1 ss)
 
 abbrev pub IsShort : PlainSymbol → Type 0
@@ -67,7 +69,7 @@ length-call r = length-append (rela_bytes (rela_of r)) [] ∙ omega (arith, leng
 -- ---- a whole object
 
 pub small : (ss : List PlainSymbol) (r : PlainRela) → length ss ≤ 3 → AllByRecursion IsShort ss → IsSmall call_code ss (r ∷ [])
-unfolding plan_of
+unfolding object_plan
 small ss r few short = omega (arith, length-table ss, length-names ss short, length-call r)
 
 pub small_as : (ss same : List PlainSymbol) (r : PlainRela) → same ≡ ss → length ss ≤ 3 → AllByRecursion IsShort ss → IsSmall call_code same (r ∷ [])
@@ -83,16 +85,16 @@ length-headers plan align = refl
 
 pub length-plain : (code : List ℕ) (align : ℕ) (ss : List PlainSymbol) (rs : List PlainRela)
     → length (plain_bytes code align ss rs) ≡ (plain_plan code ss rs).headers + 320
-unfolding plan_of
+unfolding object_plan
 length-plain code align ss rs =
     let plan : Plan = plain_plan code ss rs in
     let b0 : List ℕ = ehdr_bytes (file_header plan.headers) ++ code in
     let b1 : List ℕ = placed plan.relas.offset b0 (rela_table rs) in
-    let b2 : List ℕ = placed plan.symbols.offset b1 (symbol_table ss) in
+    let b2 : List ℕ = placed plan.symbols.offset b1 (symbol_entries ss) in
     let b3 : List ℕ = placed plan.strings.offset b2 (string_table ss) in
     let l0 : length b0 ≡ 64 + length code = length-append (ehdr_bytes (file_header plan.headers)) code ∙ ap (λ n. n + length code) (length-ehdr plan.headers) in
     let l1 : length b1 ≡ plan.relas.offset + length (rela_table rs) = length-placed plan.relas.offset b0 (rela_table rs) (omega arith) in
-    let l2 : length b2 ≡ plan.symbols.offset + length (symbol_table ss) = length-placed plan.symbols.offset b1 (symbol_table ss) (omega arith) in
+    let l2 : length b2 ≡ plan.symbols.offset + length (symbol_entries ss) = length-placed plan.symbols.offset b1 (symbol_entries ss) (omega arith) in
     let l3 : length b3 ≡ plan.strings.offset + length (string_table ss) = length-placed plan.strings.offset b2 (string_table ss) (omega arith) in
     length-placed plan.headers b3 (section_headers plan align) (omega arith) ∙ ap (λ n. plan.headers + n) (length-headers plan align)
 
@@ -122,25 +124,25 @@ function_short : (i : ℕ) (o : Option ℕ) → i < 2 ^ 32 → IsShort (function
 function_short i o h = omega (arith, length-append (codes "f") (decimal i), short_number i h)
 
 pub symbols_few : (n i : ℕ) → length (symbols_of n i) ≤ 3
-symbols_few n i = few_of (i == 0) (next_of n i == i) (function i (Some 0)) start (function (next_of n i) None)
+symbols_few n i = few_of (i == 0) (next_object n i == i) (function i (Some 0)) start (function (next_object n i) None)
 
 pub symbols_short : (n i : ℕ) → i < n → n ≤ 200 → AllByRecursion IsShort (symbols_of n i)
 symbols_short n i there few =
-    short_of (i == 0) (next_of n i == i) (function i (Some 0)) start (function (next_of n i) None)
-    (function_short i (Some 0) (omega arith)) (omega arith) (function_short (next_of n i) None (omega arith))
+    short_of (i == 0) (next_object n i == i) (function i (Some 0)) start (function (next_object n i) None)
+    (function_short i (Some 0) (omega arith)) (omega arith) (function_short (next_object n i) None (omega arith))
 
-pub called_within : (n i : ℕ) → (1 ≤ called n i) × (called n i ≤ length (symbols_of n i))
-called_within n i = within_of (i == 0) (next_of n i == i) (function i (Some 0)) start (function (next_of n i) None)
+pub called_within : (n i : ℕ) → (1 ≤ called_symbol n i) × (called_symbol n i ≤ length (symbols_of n i))
+called_within n i = within_of (i == 0) (next_object n i == i) (function i (Some 0)) start (function (next_object n i) None)
 
 -- ---- the object
 
-object_as : (n i symbol : ℕ) (ss : List PlainSymbol) → ss ≡ symbols_of n i → symbol ≡ called n i
+object_as : (n i symbol : ℕ) (ss : List PlainSymbol) → ss ≡ symbols_of n i → symbol ≡ called_symbol n i
     → plain_bytes call_code 16 ss (record { offset = 1; kind = 4; symbol = symbol; addend = negsuc 3 } ∷ []) ≡ object n i
 object_as n i symbol ss e f =
     ap (λ (l : List PlainSymbol). plain_bytes call_code 16 l (record { offset = 1; kind = 4; symbol = symbol; addend = negsuc 3 } ∷ [])) e
     ∙ ap (λ (k : ℕ). plain_bytes call_code 16 (symbols_of n i) (record { offset = 1; kind = 4; symbol = k; addend = negsuc 3 } ∷ [])) f
 
-pub made_as : {E : Type 0} (n i symbol : ℕ) (ss : List PlainSymbol) (result : Result (List ℕ) E) → ss ≡ symbols_of n i → symbol ≡ called n i
+pub made_as : {E : Type 0} (n i symbol : ℕ) (ss : List PlainSymbol) (result : Result (List ℕ) E) → ss ≡ symbols_of n i → symbol ≡ called_symbol n i
     → IfOk result (λ bytes. bytes ≡ plain_bytes call_code 16 ss (record { offset = 1; kind = 4; symbol = symbol; addend = negsuc 3 } ∷ []))
     → IfOk result (λ bytes. bytes ≡ object n i)
 made_as n i symbol ss (Ok bytes) e f h = h ∙ object_as n i symbol ss e f

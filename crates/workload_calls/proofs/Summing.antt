@@ -14,8 +14,10 @@ use Rattle.workload_calls.specs.declared.replies.Figures.{Figures}
 use Rattle.workload_calls.specs.declared.replies.Said.{Said}
 use Rattle.workload_calls.specs.declared.replies.Said.TheVariants as said
 use Rattle.workload_calls.specs.declared.replies.Sums.{Sums}
-use Rattle.workload_calls.specs.Lines.{Tells, numbers_line}
-use Rattle.workload_calls.specs.Replies.{AreFigures, HadMemory, HasFigures, IsWithin, figures_at, figures_of, file_size, first_figures, is_image, no_sums, replies_bytes, said_at, said_of, sums_from, with_said}
+use Rattle.workload_calls.specs.Lines.{numbers_line}
+use Rattle.workload_calls.specs.Lines.{TellsFigures}
+use Rattle.workload_calls.specs.Replies.{AreFigures, HadMemory, HasFigures, figures_at, figures_of, first_figures, no_sums, replies_bytes, said_at, said_of, sums_from, with_said}
+use Rattle.workload_calls.specs.Replies.{IsReplyWithin, image_length, is_image_reply}
 
 -- ---- one frame
 
@@ -74,23 +76,23 @@ said_right reply frame is h = ap said_at is ∙ said_own reply h
 
 -- ---- sums
 
-one_image : (s : Sums) (a : Answer) → (with_said s (said_of a)).images ≡ s.images + cond (is_image a) 1 0
+one_image : (s : Sums) (a : Answer) → (with_said s (said_of a)).images ≡ s.images + cond (is_image_reply a) 1 0
 one_image s (Image v b file) = refl
 one_image s _ = omega arith
 
-one_size : (s : Sums) (a : Answer) → (with_said s (said_of a)).bytes ≡ s.bytes + file_size a
+one_size : (s : Sums) (a : Answer) → (with_said s (said_of a)).bytes ≡ s.bytes + image_length a
 one_size s (Image v b file) = refl
 one_size s _ = omega arith
 
-pub images_are : (s : Sums) (answers : List Answer) → (sums_from s answers).images ≡ s.images + count_by is_image answers
+pub images_are : (s : Sums) (answers : List Answer) → (sums_from s answers).images ≡ s.images + count_by is_image_reply answers
 images_are s [] = omega arith
 images_are s (a ∷ answers) =
-    omega (arith, images_are (with_said s (said_of a)) answers, one_image s a, sum_by-cons (λ x. cond (is_image x) 1 0) a answers)
+    omega (arith, images_are (with_said s (said_of a)) answers, one_image s a, sum_by-cons (λ x. cond (is_image_reply x) 1 0) a answers)
 
-pub sizes_are : (s : Sums) (answers : List Answer) → (sums_from s answers).bytes ≡ s.bytes + sum_by file_size answers
+pub sizes_are : (s : Sums) (answers : List Answer) → (sums_from s answers).bytes ≡ s.bytes + sum_by image_length answers
 sizes_are s [] = omega arith
 sizes_are s (a ∷ answers) =
-    omega (arith, sizes_are (with_said s (said_of a)) answers, one_size s a, sum_by-cons file_size a answers)
+    omega (arith, sizes_are (with_said s (said_of a)) answers, one_size s a, sum_by-cons image_length a answers)
 
 figures_stay : (s : Sums) (f : Figures) (answers : List Answer) → s.figures ≡ Some f → (sums_from s answers).figures ≡ Some f
 figures_stay s f [] e = e
@@ -147,7 +149,7 @@ one_more s (said.Counts f) = omega arith
 one_more s said.NoMemory = omega arith
 one_more s said.Other = omega arith
 
-some_more : (s : Sums) (what : Said) (long : ℕ) → IsWithin what long → (with_said s what).bytes ≤ s.bytes + long
+some_more : (s : Sums) (what : Said) (long : ℕ) → IsReplyWithin what long → (with_said s what).bytes ≤ s.bytes + long
 some_more s (said.Image size) long h = omega (arith, h)
 some_more s (said.Counts f) long h = omega arith
 some_more s said.NoMemory long h = omega arith
@@ -157,7 +159,7 @@ some_more s said.Other long h = omega arith
 pub reads_more : (bytes rest frame after : List ℕ) (size : ℕ) (sums new : Sums) (what : Said) → Reads bytes rest sums → 5 ≤ size → size ≤ length rest
     → ((reply : Answer) (more : List ℕ) → rest ≡ reply_frame reply ++ more → length rest < 2 ^ 32 → Some size ≡ Some (length (reply_frame reply)))
     → length bytes < 2 ^ 32 → frame ≡ take size rest → after ≡ drop size rest → length frame ≡ size → length after + size ≡ length rest
-    → what ≡ said_at frame → IsWithin what (length frame) → new ≡ with_said sums what
+    → what ≡ said_at frame → IsReplyWithin what (length frame) → new ≡ with_said sums what
     → Reads bytes after new
 reads_more bytes rest frame after size sums new what reads some fits front few f a long cut says within is = record {
   images = omega (arith, reads.images, ap (λ (s : Sums). s.images) is, one_more sums what);
@@ -189,21 +191,21 @@ reads_done bytes rest sums reads none answers whole h =
 -- ---- the line
 
 tells : (n : ℕ) (s : Sums) (f : Figures) (line : List ℕ) (answers : List Answer) → s ≡ sums_from no_sums answers → s.figures ≡ Some f → s.lacked ≡ false
-    → line ≡ numbers_line n s.images s.bytes f → Tells n answers line
+    → line ≡ numbers_line n s.images s.bytes f → TellsFigures n answers line
 tells n s f line answers is has lacked made =
-    let images : s.images ≡ count_by is_image answers = ap (λ (t : Sums). t.images) is ∙ images_are no_sums answers ∙ omega arith in
-    let sizes : s.bytes ≡ sum_by file_size answers = ap (λ (t : Sums). t.bytes) is ∙ sizes_are no_sums answers ∙ omega arith in
+    let images : s.images ≡ count_by is_image_reply answers = ap (λ (t : Sums). t.images) is ∙ images_are no_sums answers ∙ omega arith in
+    let sizes : s.bytes ≡ sum_by image_length answers = ap (λ (t : Sums). t.bytes) is ∙ sizes_are no_sums answers ∙ omega arith in
     record {
       had_memory = (memory_was no_sums answers (ap (λ (t : Sums). t.lacked) (sym is) ∙ lacked)).1;
       figures = f;
       counted = sym (figures_are no_sums answers refl) ∙ ap (λ (t : Sums). t.figures) (sym is) ∙ has;
-      line_is = made ∙ ap (λ (k : ℕ). numbers_line n k s.bytes f) images ∙ ap (λ (k : ℕ). numbers_line n (count_by is_image answers) k f) sizes;
+      line_is = made ∙ ap (λ (k : ℕ). numbers_line n k s.bytes f) images ∙ ap (λ (k : ℕ). numbers_line n (count_by is_image_reply answers) k f) sizes;
     }
 
 -- what is made of the sums of some bytes is the line of the replies that they are
 pub tells_of : {E : Type 0} (n : ℕ) (s : Sums) (f : Figures) (bytes : List ℕ) (result : Result (List ℕ) E)
     → ((answers : List Answer) → bytes ≡ replies_bytes answers → AllByRecursion HasFigures answers → s ≡ sums_from no_sums answers)
     → s.figures ≡ Some f → s.lacked ≡ false → IfOk result (λ line. line ≡ numbers_line n s.images s.bytes f)
-    → IfOk result (λ line. (answers : List Answer) → bytes ≡ replies_bytes answers → AllByRecursion HasFigures answers → Tells n answers line)
+    → IfOk result (λ line. (answers : List Answer) → bytes ≡ replies_bytes answers → AllByRecursion HasFigures answers → TellsFigures n answers line)
 tells_of n s f bytes (Ok line) read has lacked made = λ answers is fit. tells n s f line answers (read answers is fit) has lacked made
 tells_of n s f bytes (Err x) read has lacked made = made

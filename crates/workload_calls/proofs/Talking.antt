@@ -22,7 +22,8 @@ use Rattle.omos_session.proofs.TurnLaws.{moves_extend}
 use Rattle.omos_wire.proofs.Again.{same_first}
 use Rattle.omos_wire.specs.Answer.{Answer, reply_frame}
 use Rattle.omos_wire.specs.Answer as answer
-use Rattle.omos_wire.specs.Message.{End, Fits, Message, Stats, frame}
+use Rattle.omos_wire.specs.Message.{End, Message, Stats, frame}
+use Rattle.omos_wire.specs.Message.{HasFrame}
 use Rattle.omos_wire.specs.Message as message
 use Rattle.workload_calls.specs.Replies.{AreFigures, HasFigures, figures_of, replies_bytes}
 use Rattle.workload_calls.specs.Stream.{links, objects, others, program_path, programs, put_object, put_program, stream_bytes, twice, workload}
@@ -70,7 +71,7 @@ rows_end [] last none e = e
 rows_end (r ∷ before) last none e = ends_more r.frame (frames (before ++ last ∷ [])) none.0 (rows_end before last none.1 e)
 
 -- requests up to the end are the same where the frames of one list begin those of the other
-same_requests : (gs fs : List Message) (xs : List ℕ) → AllByRecursion Fits gs → AllByRecursion Fits fs → EndsAt gs → EndsAt fs
+same_requests : (gs fs : List Message) (xs : List ℕ) → AllByRecursion HasFrame gs → AllByRecursion HasFrame fs → EndsAt gs → EndsAt fs
     → flat_map frame gs ++ xs ≡ flat_map frame fs → gs ≡ fs
 same_requests [] fs xs a b eg ef e = absurd eg
 same_requests (g ∷ gs) [] xs a b eg ef e = absurd ef
@@ -159,7 +160,7 @@ bytes_of (r ∷ rows) = ap (λ (l : List ℕ). reply_frame r.reply ++ l) (bytes_
 
 talked_on : (n : ℕ) (new : StoreParts) (s s' : Stream) (held held' : List ℕ)
     → IsSession true (standing_of (store_of [] cache room) 1) (standing_of new 1) (Some s) (Some s') (Some held) (Some held') ending.Ended
-    → s.left ≡ stream_bytes n → held ≡ [] → AllByRecursion Fits (workload n) → HasTalked n new held'
+    → s.left ≡ stream_bytes n → held ≡ [] → AllByRecursion HasFrame (workload n) → HasTalked n new held'
 talked_on n new s s' held held' h is none fits =
     let before : List Row = h.answers.0 in
     let last : Row = h.answers.1 in
@@ -183,7 +184,7 @@ talked_on n new s s' held held' h is none fits =
 
 pub talked : (n : ℕ) (old new : StoreParts) (s s' : Stream) (held held' : List ℕ)
     → IsSession true (standing_of old 1) (standing_of new 1) (Some s) (Some s') (Some held) (Some held') ending.Ended
-    → old ≡ store_of [] cache room → s.left ≡ stream_bytes n → held ≡ [] → AllByRecursion Fits (workload n) → HasTalked n new held'
+    → old ≡ store_of [] cache room → s.left ≡ stream_bytes n → held ≡ [] → AllByRecursion HasFrame (workload n) → HasTalked n new held'
 talked n old new s s' held held' h first is none fits =
     talked_on n new s s' held held'
     (subst (λ (o : StoreParts). IsSession true (standing_of o 1) (standing_of new 1) (Some s) (Some s') (Some held) (Some held') ending.Ended) first h)

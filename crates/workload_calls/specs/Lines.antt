@@ -3,7 +3,8 @@ use Rattle.std.specs.Prelude.{◌≡◌, ℕ, List, [], ◌∷◌, ◌++◌, cod
 use Rattle.std.specs.List.{AllByRecursion}
 use Rattle.omos_wire.specs.Answer.{Answer}
 use Rattle.workload_calls.specs.declared.replies.Figures.{Figures}
-use Rattle.workload_calls.specs.Replies.{HadMemory, file_size, first_figures, is_image}
+use Rattle.workload_calls.specs.Replies.{HadMemory, first_figures}
+use Rattle.workload_calls.specs.Replies.{image_length, is_image_reply}
 
 -- `objects N images I bytes B hits H evicted E placements L version V`
 abbrev pub numbers_line : ℕ → ℕ → ℕ → Figures → List ℕ
@@ -16,10 +17,10 @@ numbers_line n images bytes f =
 -- how many images were sent, how many bytes their files had, and what the counts said
 abbrev pub workload_line : ℕ → List Answer → Figures → List ℕ
 workload_line n answers f =
-    numbers_line n (count_by is_image answers) (sum_by file_size answers) f
+    numbers_line n (count_by is_image_reply answers) (sum_by image_length answers) f
 
 -- none of the replies is want of memory, and the line is of them
-pub record Tells (n : ℕ) (answers : List Answer) (line : List ℕ) : Type 0 where
+pub record TellsFigures (n : ℕ) (answers : List Answer) (line : List ℕ) : Type 0 where
   pub had_memory : AllByRecursion HadMemory answers
   pub figures : Figures
   pub counted : first_figures answers ≡ Some figures

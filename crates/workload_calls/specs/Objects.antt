@@ -10,8 +10,8 @@ abbrev pub numbered : List ℕ → ℕ → List ℕ
 numbered text number = text ++ decimal number
 
 -- which object number i calls
-abbrev pub next_of : ℕ → ℕ → ℕ
-next_of n i = (i + 1) % n
+abbrev pub next_object : ℕ → ℕ → ℕ
+next_object n i = (i + 1) % n
 
 -- a call whose field is zeros, a return, and ten bytes that do nothing
 abbrev pub call_code : List ℕ
@@ -31,15 +31,15 @@ own_symbols i = function i (Some 0) ∷ (if i == 0 then start ∷ [] else [])
 -- its own, and the function that it calls, where that is another's
 abbrev pub symbols_of : ℕ → ℕ → List PlainSymbol
 symbols_of n i =
-    own_symbols i ++ (if next_of n i == i then [] else function (next_of n i) None ∷ [])
+    own_symbols i ++ (if next_object n i == i then [] else function (next_object n i) None ∷ [])
 
 -- the number of the symbol that is called
-abbrev pub called : ℕ → ℕ → ℕ
-called n i = if next_of n i == i then 1 else length (symbols_of n i)
+abbrev pub called_symbol : ℕ → ℕ → ℕ
+called_symbol n i = if next_object n i == i then 1 else length (symbols_of n i)
 
 -- the call's relocation, of type R_X86_64_PLT32 (4) with addend -4
 abbrev pub call_of : ℕ → ℕ → PlainRela
-call_of n i = record { offset = 1; kind = 4; symbol = called n i; addend = negsuc 3 }
+call_of n i = record { offset = 1; kind = 4; symbol = called_symbol n i; addend = negsuc 3 }
 
 -- object i of n
 abbrev pub object : ℕ → ℕ → List ℕ

@@ -13,14 +13,14 @@ use Rattle.workload_calls.specs.declared.replies.Said.{Said}
 use Rattle.workload_calls.specs.declared.replies.Said.TheVariants as said
 use Rattle.workload_calls.specs.declared.replies.Sums.{Sums}
 
-abbrev pub is_image : Answer → Bool
-is_image (Image version base file) = true
-is_image _ = false
+abbrev pub is_image_reply : Answer → Bool
+is_image_reply (Image version base file) = true
+is_image_reply _ = false
 
 -- how many bytes an image's file has
-abbrev pub file_size : Answer → ℕ
-file_size (Image version base file) = length file
-file_size _ = 0
+abbrev pub image_length : Answer → ℕ
+image_length (Image version base file) = length file
+image_length _ = 0
 
 abbrev pub figures_of : Totals → Figures
 figures_of n = record {
@@ -89,9 +89,9 @@ CanTake s (said.Image size) = (s.images < 2 ^ 63) × (s.bytes + size < 2 ^ 63)
 CanTake s _ = Unit {0}
 
 -- an image's file is shorter than its frame
-abbrev pub IsWithin : Said → ℕ → Type 0
-IsWithin (said.Image size) long = size ≤ long
-IsWithin _ long = Unit {0}
+abbrev pub IsReplyWithin : Said → ℕ → Type 0
+IsReplyWithin (said.Image size) long = size ≤ long
+IsReplyWithin _ long = Unit {0}
 
 -- ---- as they lie in their frames
 

@@ -4,7 +4,8 @@ use Rattle.std.specs.Prelude.{◌≡◌, ℕ, ◌-◌, ◌==◌, if◌then◌els
 use Rattle.std.specs.Prelude.{codes, decimal, map}
 use Rattle.std.specs.List.{AllByRecursion, flat_map}
 use Rattle.omos_model.specs.Numbers.{numbers_from}
-use Rattle.omos_wire.specs.Message.{Fits, Message, PutObject, PutBlueprint, Link, Stats, End, frame}
+use Rattle.omos_wire.specs.Message.{Message, PutObject, PutBlueprint, Link, Stats, End, frame}
+use Rattle.omos_wire.specs.Message.{HasFrame}
 use Rattle.workload_calls.specs.Objects.{numbered, object}
 
 abbrev pub object_path : ℕ → List ℕ
@@ -66,5 +67,5 @@ abbrev pub stream_bytes : ℕ → List ℕ
 stream_bytes n = flat_map frame (workload n)
 
 -- the frames of these requests, each of which has one, were added to a stream
-abbrev pub Adds : List ℕ → List ℕ → List Message → Type 0
-Adds old new requests = (new ≡ old ++ flat_map frame requests) × AllByRecursion Fits requests
+abbrev pub AddsFrames : List ℕ → List ℕ → List Message → Type 0
+AddsFrames old new requests = (new ≡ old ++ flat_map frame requests) × AllByRecursion HasFrame requests

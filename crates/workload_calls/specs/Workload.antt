@@ -12,8 +12,8 @@ use Rattle.omos_session.specs.Session.{frames}
 use Rattle.omos_session.specs.Talk.{IsTold, Row, turns_of}
 use Rattle.omos_wire.specs.Answer.{Answer}
 use Rattle.workload_calls.specs.Replies.{replies_bytes}
-use Rattle.workload_calls.specs.Lines.{Tells}
 use Rattle.workload_calls.specs.Stream.{workload}
+use Rattle.workload_calls.specs.Lines.{TellsFigures}
 
 -- a cache of 64 images, and a record of 4,096 steps
 abbrev pub cache : ℕ
@@ -39,14 +39,14 @@ pub record HasTalked (n : ℕ) (store : StoreParts) (written : List ℕ) : Type 
   pub wrote : written ≡ replies_bytes (replies rows)
 
 -- such a session ended so, and the line is of its replies
-pub record IsServed (n : ℕ) (store : StoreParts) (line : List ℕ) : Type 0 where
+pub record IsServedWorkload (n : ℕ) (store : StoreParts) (line : List ℕ) : Type 0 where
   pub written : List ℕ
   pub talk : HasTalked n store written
-  pub tells : Tells n (replies talk.rows) line
+  pub tells : TellsFigures n (replies talk.rows) line
 
-abbrev pub status_of : Sent → ℕ
-status_of sent.All = 0
-status_of sent.Failed = 4
+abbrev pub sent_status : Sent → ℕ
+sent_status sent.All = 0
+sent_status sent.Failed = 4
 
 -- The words say a number; its workload was served, and its line written, or a part of it where the
 -- sink failed, as the status tells.
@@ -55,7 +55,7 @@ pub record HasWorked (status : ℕ) (said : Option ℕ) (store : StoreParts)
   pub n : ℕ
   pub said_is : said ≡ Some n
   pub line : List ℕ
-  pub served : IsServed n store line
+  pub served : IsServedWorkload n store line
   pub answer : Sent
   pub wrote : Wrote answer held held' line
-  pub status_is : status ≡ status_of answer
+  pub status_is : status ≡ sent_status answer

@@ -3,7 +3,8 @@
 ghost use Rattle.std.specs.Prelude.{◌≡◌, ◌↔◌, ◌⊎◌, None, MatchOption, map, string_bytes};
 ghost use Rattle.omos_outside.specs.Faults.{Rose};
 ghost use Rattle.command_words.specs.Words.{workload_words};
-ghost use Rattle.workload_calls.specs.Workload.{HasWorked, status_of};
+ghost use Rattle.workload_calls.specs.Workload.{HasWorked};
+ghost use Rattle.workload_calls.specs.Workload.{sent_status};
 
 use crate::serving::serve_workload;
 use command_words::workload_words;
@@ -14,7 +15,7 @@ use std::alloc::Global;
 
 /// The status that tells whether the line was written.
 fn status_of(answer: Sent) -> u8
-    ensures { result ≡ status_of answer }
+    ensures { result ≡ sent_status answer }
 {
     match answer {
         Sent::All => 0,

@@ -2,10 +2,12 @@
 
 ghost use Rattle.std.specs.Prelude.{◌≡◌, ◌*◌, ◌≤◌, ◌<◌, ◌∷◌, [], IfOk, OnOk, length};
 ghost use Rattle.std.specs.List.{AllByRecursion};
-ghost use Rattle.omos_wire.specs.Message.{End, Fits, Stats, message_of};
-ghost use Rattle.workload_calls.specs.Stream.{Adds, all_text, links, objects, programs};
+ghost use Rattle.omos_wire.specs.Message.{End, Stats, message_of};
+ghost use Rattle.omos_wire.specs.Message.{HasFrame};
+ghost use Rattle.workload_calls.specs.Stream.{all_text, links, objects, programs};
 ghost use Rattle.workload_calls.specs.Stream.{program_path, program_text, put_all, put_object};
 ghost use Rattle.workload_calls.specs.Stream.{operands, put_program, stream_bytes, twice, workload};
+ghost use Rattle.workload_calls.specs.Stream.{AddsFrames};
 
 use crate::names::numbered;
 use crate::objects::object;
@@ -16,8 +18,8 @@ use std::alloc::Global;
 
 /// Appends the frame of a request.
 fn push_request(alloc: Global, stream: &mut Bytes, request: &Request<'_>) -> Result<(), NoMemory>
-    requires { Fits (message_of request.now) }
-    ensures { OnOk result (Adds stream.old stream.new (message_of request.now ∷ [])) }
+    requires { HasFrame (message_of request.now) }
+    ensures { OnOk result (AddsFrames stream.old stream.new (message_of request.now ∷ [])) }
 {
     let frame = request_frame(alloc, request)?;
     stream.push_slice(frame.as_slice())
@@ -27,7 +29,7 @@ fn push_request(alloc: Global, stream: &mut Bytes, request: &Request<'_>) -> Res
 fn push_object(alloc: Global, stream: &mut Bytes, n: u32, i: u32) -> Result<(), NoMemory>
     requires there { i < n }
     requires few { n ≤ 200 }
-    ensures { OnOk result (Adds stream.old stream.new (put_object n i ∷ [])) }
+    ensures { OnOk result (AddsFrames stream.old stream.new (put_object n i ∷ [])) }
 {
     let path = numbered(alloc, b"/o/", i)?;
     let object = object(alloc, n, i)?;
@@ -41,7 +43,7 @@ fn push_object(alloc: Global, stream: &mut Bytes, n: u32, i: u32) -> Result<(), 
 /// Appends the frames that publish the objects.
 fn push_objects(alloc: Global, stream: &mut Bytes, n: u32) -> Result<(), NoMemory>
     requires { n ≤ 200 }
-    ensures { OnOk result (Adds stream.old stream.new (objects n)) }
+    ensures { OnOk result (AddsFrames stream.old stream.new (objects n)) }
 {
     'objects: for i in 0..n {
         push_object(alloc, stream, n, i)?;
@@ -80,7 +82,7 @@ fn all_text(alloc: Global, n: u32) -> Result<Bytes, NoMemory>
 /// Appends the frame that publishes the blueprint that joins all objects.
 fn push_all(alloc: Global, stream: &mut Bytes, n: u32) -> Result<(), NoMemory>
     requires { n ≤ 200 }
-    ensures { OnOk result (Adds stream.old stream.new (put_all n ∷ [])) }
+    ensures { OnOk result (AddsFrames stream.old stream.new (put_all n ∷ [])) }
 {
     let text = all_text(alloc, n)?;
     let request = Request::PutBlueprint {
@@ -104,7 +106,7 @@ fn program_text(alloc: Global, i: u32) -> Result<Bytes, NoMemory>
 
 /// Appends the frame that publishes the blueprint of one object.
 fn push_program(alloc: Global, stream: &mut Bytes, i: u32) -> Result<(), NoMemory>
-    ensures { OnOk result (Adds stream.old stream.new (put_program i ∷ [])) }
+    ensures { OnOk result (AddsFrames stream.old stream.new (put_program i ∷ [])) }
 {
     let path = numbered(alloc, b"/p/", i)?;
     let text = program_text(alloc, i)?;
@@ -118,7 +120,7 @@ fn push_program(alloc: Global, stream: &mut Bytes, i: u32) -> Result<(), NoMemor
 /// Appends the frames that publish the blueprints.
 fn push_programs(alloc: Global, stream: &mut Bytes, n: u32) -> Result<(), NoMemory>
     requires { n ≤ 200 }
-    ensures { OnOk result (Adds stream.old stream.new (programs n)) }
+    ensures { OnOk result (AddsFrames stream.old stream.new (programs n)) }
 {
     push_all(alloc, stream, n)?;
     'programs: for i in 1..n {
@@ -130,7 +132,7 @@ fn push_programs(alloc: Global, stream: &mut Bytes, n: u32) -> Result<(), NoMemo
 /// Appends the frames that link a path twice.
 fn push_twice(alloc: Global, stream: &mut Bytes, path: &[u8]) -> Result<(), NoMemory>
     requires { length path.now < 65536 }
-    ensures { OnOk result (Adds stream.old stream.new (twice path.now)) }
+    ensures { OnOk result (AddsFrames stream.old stream.new (twice path.now)) }
 {
     let request = Request::Link { path };
     push_request(alloc, stream, &request)?;
@@ -139,7 +141,7 @@ fn push_twice(alloc: Global, stream: &mut Bytes, path: &[u8]) -> Result<(), NoMe
 
 /// Appends the frames that link the program of one object twice.
 fn push_links_of(alloc: Global, stream: &mut Bytes, i: u32) -> Result<(), NoMemory>
-    ensures { OnOk result (Adds stream.old stream.new (twice (program_path i))) }
+    ensures { OnOk result (AddsFrames stream.old stream.new (twice (program_path i))) }
 {
     let path = numbered(alloc, b"/p/", i)?;
     push_twice(alloc, stream, path.as_slice())
@@ -148,7 +150,7 @@ fn push_links_of(alloc: Global, stream: &mut Bytes, i: u32) -> Result<(), NoMemo
 /// Appends the frames that link.
 fn push_links(alloc: Global, stream: &mut Bytes, n: u32) -> Result<(), NoMemory>
     requires { n ≤ 200 }
-    ensures { OnOk result (Adds stream.old stream.new (links n)) }
+    ensures { OnOk result (AddsFrames stream.old stream.new (links n)) }
 {
     push_twice(alloc, stream, b"/all")?;
     'links: for i in 1..n {
@@ -159,7 +161,7 @@ fn push_links(alloc: Global, stream: &mut Bytes, n: u32) -> Result<(), NoMemory>
 
 /// Appends the frames that ask for the counts and end the session.
 fn push_end(alloc: Global, stream: &mut Bytes) -> Result<(), NoMemory>
-    ensures { OnOk result (Adds stream.old stream.new (Stats ∷ End ∷ [])) }
+    ensures { OnOk result (AddsFrames stream.old stream.new (Stats ∷ End ∷ [])) }
 {
     push_request(alloc, stream, &Request::Stats)?;
     push_request(alloc, stream, &Request::End)
@@ -175,7 +177,7 @@ pub fn stream(alloc: Global, n: u32) -> Result<Bytes, NoMemory>
     requires some { 1 ≤ n }
     requires few { n ≤ 200 }
     ensures frames { IfOk result (λ bytes. bytes ≡ stream_bytes n) }
-    ensures fits { IfOk result (λ _. AllByRecursion Fits (workload n)) }
+    ensures fits { IfOk result (λ _. AllByRecursion HasFrame (workload n)) }
 {
     let mut stream = Bytes::new(alloc);
     push_objects(alloc, &mut stream, n)?;

@@ -1,8 +1,9 @@
 //! The objects of a workload.
 
 ghost use Rattle.std.specs.Prelude.{◌≡◌, ◌+◌, ◌≤◌, ◌<◌, ◌==◌, length, IfOk, Some, None};
-ghost use Rattle.workload_calls.specs.Objects.{called, object, own_symbols, symbols_of};
+ghost use Rattle.workload_calls.specs.Objects.{object, own_symbols, symbols_of};
 ghost use Rattle.workload_calls.specs.Objects.{function};
+ghost use Rattle.workload_calls.specs.Objects.{called_symbol};
 
 use crate::names::{function_name, start_name};
 use omos_base::{Bytes, NoMemory, Row};
@@ -58,7 +59,7 @@ fn called(n: u32, i: u32, count: usize) -> u32
     requires there { i < n }
     requires few { n ≤ 200 }
     requires counted { count ≡ length (symbols_of n i) }
-    ensures { result ≡ called n i }
+    ensures { result ≡ called_symbol n i }
 {
     if (i + 1) % n == i { 1 } else { count as u32 }
 }

@@ -3,9 +3,10 @@
 ghost use Rattle.std.specs.Prelude.{◌≡◌, ◌+◌, ◌≤◌, ◌<◌, ◌^◌, ◌++◌, length, IfSome, List, ℕ, Some};
 ghost use Rattle.std.specs.List.{AllByRecursion};
 ghost use Rattle.omos_wire.specs.Answer.{Answer, reply_frame};
-ghost use Rattle.workload_calls.specs.Replies.{CanTake, HasFigures, IsWithin, figures_at};
+ghost use Rattle.workload_calls.specs.Replies.{CanTake, HasFigures, figures_at};
 ghost use Rattle.workload_calls.specs.Replies.{first_option, no_sums, replies_bytes, said_at};
 ghost use Rattle.workload_calls.specs.Replies.{sums_from, with_said};
+ghost use Rattle.workload_calls.specs.Replies.{IsReplyWithin};
 
 use omos_base::{u32_at, u64_at};
 
@@ -79,7 +80,7 @@ fn figures_in(frame: &[u8]) -> Figures
 fn said_in(frame: &[u8]) -> Said
     requires { 5 ≤ length frame.now }
     ensures said { result ≡ said_at frame.now }
-    ensures small { IsWithin result (length frame.now) }
+    ensures small { IsReplyWithin result (length frame.now) }
 {
     match frame[4] {
         130 => Said::Image((frame.len() as u64).saturating_sub(21)),

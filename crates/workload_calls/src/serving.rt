@@ -4,11 +4,10 @@ ghost use Rattle.std.specs.Prelude.{◌≡◌, ◌≤◌, ◌<◌, IfOk, List, [
 ghost use Rattle.std.specs.List.{AllByRecursion};
 ghost use Rattle.hub_store.specs.Parts.{store_of};
 ghost use Rattle.omos_wire.specs.Answer.{Answer};
-ghost use Rattle.omos_wire.specs.Message.{Fits};
 ghost use Rattle.workload_calls.specs.Replies.{HasFigures, replies_bytes};
 ghost use Rattle.workload_calls.specs.Stream.{stream_bytes, workload};
-ghost use Rattle.workload_calls.specs.Lines.{Tells};
-ghost use Rattle.workload_calls.specs.Workload.{HasTalked, IsServed, cache, room};
+ghost use Rattle.workload_calls.specs.Workload.{HasTalked, cache, room};
+ghost use Rattle.workload_calls.specs.Workload.{IsServedWorkload};
 
 use crate::frames::stream;
 use crate::line::line_of;
@@ -19,6 +18,8 @@ use omos_outside::{MemorySink, MemorySource};
 use omos_session::{SessionEnd, serve_owned};
 use seeded_hash::Seed;
 use std::alloc::Global;
+ghost use Rattle.workload_calls.specs.Lines.{TellsFigures};
+ghost use Rattle.omos_wire.specs.Message.{HasFrame};
 
 /// How many images the cache holds.
 const CACHE: u32 = 64;
@@ -54,7 +55,7 @@ fn open_store(alloc: Global) -> Result<Store, NoMemory>
 fn talk(alloc: Global, store: &mut Store, n: u32, frames: Bytes) -> Result<MemorySink, NoMemory>
     requires empty { store.old ≡ store_of [] cache room }
     requires stream { frames ≡ stream_bytes n }
-    requires fits { AllByRecursion Fits (workload n) }
+    requires fits { AllByRecursion HasFrame (workload n) }
     ensures { IfOk result (λ sink. HasTalked n store.new sink.held) }
 {
     let mut source = MemorySource::new(frames, u32::MAX, Row::new(alloc));
@@ -70,7 +71,7 @@ fn talk(alloc: Global, store: &mut Store, n: u32, frames: Bytes) -> Result<Memor
 /// for 4 GiB of them, for which there is no room.
 fn told(alloc: Global, n: u32, written: &[u8]) -> Result<Bytes, NoMemory>
     ensures { IfOk result (λ line. (answers : List Answer) → written.now ≡ replies_bytes answers
-        → AllByRecursion HasFigures answers → Tells n answers line) }
+        → AllByRecursion HasFigures answers → TellsFigures n answers line) }
 {
     if written.len() > ROOM as usize {
         return Err(NoMemory);
@@ -86,7 +87,7 @@ fn told(alloc: Global, n: u32, written: &[u8]) -> Result<Bytes, NoMemory>
 pub(crate) fn serve_workload(alloc: Global, n: u32) -> Result<Work, NoMemory>
     requires some { 1 ≤ n }
     requires few { n ≤ 200 }
-    ensures { IfOk result (λ work. IsServed n work.store work.line) }
+    ensures { IfOk result (λ work. IsServedWorkload n work.store work.line) }
 {
     let mut store = open_store(alloc)?;
     let frames = stream(alloc, n)?;

@@ -9,7 +9,7 @@ use Rattle.module_eval.specs.Counted.{visit_of}
 use Rattle.module_eval.specs.Meant.{Means}
 use Rattle.module_eval.specs.Pendings.{Comes, EndsIn}
 use Rattle.module_eval.specs.Walked.{tree_in}
-use Rattle.module_eval.specs.Walks.{Charges, ComesBack, CountOn, IsReady, space_of}
+use Rattle.module_eval.specs.Walks.{Charges, ComesBack, CountOn, MayGoOn, space_of}
 use Rattle.module_eval.proofs.+visits.Given as goal
 
 -- a step down opens a blueprint, of which there are at most 32
@@ -53,7 +53,7 @@ invariant-exprs::visit_expr-pending g l =
           l.pending t (visit_of l.walk.counts)
           (tree_in (space_of l.place) limit l.fn.walk.above l.place.at.now (tree_of l.expr)
           (visit_of l.fn.walk.counts));
-      ready : IsReady (space_of l.place) l.walk;
+      ready : MayGoOn (space_of l.place) l.walk;
       counts : CountOn l.fn.walk.counts l.walk.counts;
       back : ComesBack (space_of l.place) true l.fn.walk l.walk;
       cost : Charges (space_of l.place) l.place.counting (operators (tree_of l.expr))
@@ -77,7 +77,7 @@ invariant-exprs::descend-nodes g l =
           (EndsIn l.place.counting (space_of l.place) limit l.fn.walk.above l.place.at.now
           l.pending) end;
       formed : IsTrue (is_formed l.expr);
-      ready : IsReady (space_of l.place) l.walk;
+      ready : MayGoOn (space_of l.place) l.walk;
       above : l.walk.above ≡ l.fn.walk.above;
       memo : l.walk.memo ≡ l.fn.walk.memo;
       read : l.walk.counts.read.entries ≡ l.fn.walk.counts.read.entries;

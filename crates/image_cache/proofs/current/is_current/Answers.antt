@@ -5,9 +5,9 @@ use Rattle.omos_model.specs.declared.entry.Stamped.{Stamped}
 use Rattle.std.proofs.Common.{not, ◌||◌, List, ℕ}
 use Rattle.link_model.specs.Laws.{stamp_at}
 use Rattle.place_book.specs.Keys.{is_listed}
-use Rattle.image_cache.specs.Items.{is_stamp}
 use Rattle.image_cache.proofs.Known.{stay_is_stand, nothing_since}
 use Rattle.image_cache.proofs.current.is_current.Goals as goal
+use Rattle.image_cache.specs.Items.{has_stamp}
 
 pub returns-then-is_empty : goal.returns-then-is_empty
 returns-then-is_empty c =
@@ -22,6 +22,6 @@ returns c =
     let since = drop c.args.item.now.current_at c.args.published.now in
     c.all_stay.ensures
     ∙ ap (λ (ks : List ℕ). list_all (λ (s : Stamped). not (is_listed ks s.path)
-    || is_stamp (stamp_at c.args.snap.now.entries s.path) s.stamp)
+    || has_stamp (stamp_at c.args.snap.now.entries s.path) s.stamp)
     c.args.item.now.image.footprint) c.keys_since-since.ensures
     ∙ stay_is_stand since c.args.snap.now.entries c.args.item.now.image.footprint c.requires

@@ -1,10 +1,10 @@
 use Rattle.std.proofs.Common.{inl, inr, ℕ, List, sym, ap, ◌∙◌, subst}
 use Rattle.omosd_calls.specs.declared.ending.Ending.TheVariants.{Refused, SinkFailed}
 use Rattle.omosd_calls.specs.inside.Ending.{status_of}
-use Rattle.omosd_calls.specs.Lone.{IsImage, IsRefusal}
 use Rattle.omosd_calls.proofs.Determined.{ended_done, ended_refused, no_output, told_file}
 use Rattle.omosd_calls.proofs.Endings.{answered_as}
 use Rattle.omosd_calls.proofs.once.omosd_once.Goals as goal
+use Rattle.omosd_calls.specs.Lone.{IsLoneImage, IsRefusalLine}
 
 pub returns-in-Ok-clause-refused : goal.returns-in-Ok-clause-refused
 returns-in-Ok-clause-refused g c = λ one.
@@ -26,14 +26,14 @@ pub returns-in-Ok-clause-done_where : goal.returns-in-Ok-clause-done_where
 returns-in-Ok-clause-done_where g c = λ file output once input image told.
     let answer = rw c.as_slice.ensures at c.answer_file.ensures.answer in
     let same = told_file _ _ file c.in-Ok.file input c.in-Ok.ensures.input in
-    let here = subst (λ (f : List ℕ). IsImage f output) same image in
+    let here = subst (λ (f : List ℕ). IsLoneImage f output) same image in
     c.status-in-Ok.ensures ∙ ap status_of (ended_done _ c.in-Ok.file _ _ output answer here told)
 
 pub returns-in-Ok-clause-refused_where : goal.returns-in-Ok-clause-refused_where
 returns-in-Ok-clause-refused_where g c = λ file output once input refusal told.
     let answer = rw c.as_slice.ensures at c.answer_file.ensures.answer in
     let same = told_file _ _ file c.in-Ok.file input c.in-Ok.ensures.input in
-    let here = subst (λ (f : List ℕ). IsRefusal f output) same refusal in
+    let here = subst (λ (f : List ℕ). IsRefusalLine f output) same refusal in
     c.status-in-Ok.ensures ∙ ap status_of (ended_refused _ c.in-Ok.file _ _ output answer here told)
 
 pub returns-in-Err-SourceFailed-clause-done_where :

@@ -3,7 +3,8 @@ use Rattle.turn_lock.specs.Knowledge.{Knowledge}
 use Rattle.history_book.specs.declared.step.Step.{Step}
 use Rattle.omos_hub.specs.Passes.{new_pass}
 use Rattle.worker_line.specs.Drawn.{IsNew}
-use Rattle.omosd_slots.specs.Slots.{slots_of, seated_from}
+use Rattle.omosd_slots.specs.Slots.{seated_from}
+use Rattle.omosd_slots.specs.Slots.{slot_states}
 use Rattle.omosd_slots.proofs.run.seat_all.Given as goal
 
 abbrev pub invariant-slots : goal.invariant-slots
@@ -11,8 +12,8 @@ invariant-slots g l =
     let count : ℕ = length l.fn.slots.items in
     let k : ℕ = length l.seated.items in record {
       all :
-          l.seated.items ++ seated_from l.hub l.fn.limits.cache l.fn.limits.steps count l.draws (k + 1) (slots_of g.D.Door.state g.G.Gate.crossings l.slots.items)
-          ≡ seated_from l.hub l.fn.limits.cache l.fn.limits.steps count l.draws 1 (slots_of g.D.Door.state g.G.Gate.crossings l.fn.slots.items);
+          l.seated.items ++ seated_from l.hub l.fn.limits.cache l.fn.limits.steps count l.draws (k + 1) (slot_states g.D.Door.state g.G.Gate.crossings l.slots.items)
+          ≡ seated_from l.hub l.fn.limits.cache l.fn.limits.steps count l.draws 1 (slot_states g.D.Door.state g.G.Gate.crossings l.fn.slots.items);
       count_is : k + length l.slots.items ≡ count;
       passes_are : length l.passes.items ≡ length l.slots.items;
       seats_are : length l.seats.items ≡ length l.slots.items;

@@ -1,7 +1,8 @@
 use Rattle.std.proofs.Common.{map}
 use Rattle.omos_model.specs.Numbers.{numbers_from}
-use Rattle.workload_calls.specs.Stream.{Adds, put_object}
+use Rattle.workload_calls.specs.Stream.{put_object}
+use Rattle.workload_calls.specs.Stream.{AddsFrames}
 use Rattle.workload_calls.proofs.frames.push_objects.Given as goal
 
 abbrev pub invariant-objects : goal.invariant-objects
-invariant-objects l = Adds l.initial.stream l.stream (map (put_object l.n) (numbers_from 0 l.i))
+invariant-objects l = AddsFrames l.initial.stream l.stream (map (put_object l.n) (numbers_from 0 l.i))
