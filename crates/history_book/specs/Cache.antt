@@ -56,7 +56,8 @@ is_hit ns items path = list_any (λ i. is_cached_as path i && is_current ns i) i
 
 -- an item of the path of the same or a newer version is held
 abbrev pub has_as_new : List CacheItem → Name → ℕ → Bool
-has_as_new items path version = list_any (λ i. is_cached_as path i && nat_le version i.version) items
+has_as_new items path version =
+    list_any (λ i. is_cached_as path i && nat_le version i.version) items
 
 -- ---- the cache, the most recently used first
 

@@ -103,10 +103,12 @@ found_at space items path n i l e t =
 kept_at : (P : List Step) (items : List Item) (n : ℕ) (i : Item) → All (IsKeptItem P) items
     → n < length items
     → i ≡ get_or items n i → IsKeptItem P i
-kept_at P items n i all l e = subst (IsKeptItem P) (sym e) (All-get_or (IsKeptItem P) items n i l all)
+kept_at P items n i all l e =
+    subst (IsKeptItem P) (sym e) (All-get_or (IsKeptItem P) items n i l all)
 
 -- the item that was found is kept as one that is current now
-found_kept : (P : List Step) (i : Item) → IsKeptItem P i → held.is_fresh (namespace_after P) i ≡ true
+found_kept : (P : List Step) (i : Item) → IsKeptItem P i
+    → held.is_fresh (namespace_after P) i ≡ true
     → IsKeptItem P (held.as_found (version_after P) i)
 found_kept P i k e = record { read = k.read; asked = k.asked; current = e; found = omega arith }
 
@@ -241,7 +243,8 @@ after_placed limits P space book items t r base st ticket un p e =
     }
 
 -- what was said of the place stays true in the record that comes of it
-pub stands_then : (P : List Step) (t : TicketParts) (r : Ready) (at : Place) → place_for_ticket P t r ≡ at
+pub stands_then : (P : List Step) (t : TicketParts) (r : Ready) (at : Place)
+    → place_for_ticket P t r ≡ at
     → place_for_ticket (P ++ placing t r.layout.pages at) t r ≡ place_then (place_reply at)
 stands_then P t r (place.Held base) e = ap (λ Q. place_for_ticket Q t r) (append-nil P) ∙ e
 stands_then P t r place.NoRoom e = ap (λ Q. place_for_ticket Q t r) (append-nil P) ∙ e

@@ -191,7 +191,8 @@ after_held limits P space book items seat path st room is =
       legal = legal_push_two limits.cache limits.steps P s t st.legal
           (request limits.steps P room, is)
           (due_push limits.cache P s) (due_push_two limits.cache P s t);
-      told = plain_push (P ++ s ∷ []) space book items (held.without_path path items) t told refl refl
+      told = plain_push (P ++ s ∷ []) space book items (held.without_path path items) t told refl
+          refl
           (facts_without path items)
           (All-without (IsKeptItem ((P ++ s ∷ []) ++ t ∷ [])) path items
           (all_kept (P ++ s ∷ []) (t ∷ []) items told.kept))

@@ -3,11 +3,11 @@
 ghost use Rattle.std.specs.Prelude.{◌≡◌, nat_le, Ok};
 ghost use Rattle.link_model.specs.Answer.{answer};
 ghost use Rattle.hub_store.specs.Keeps.{of_item};
+ghost use Rattle.image_cache.specs.Items.{item_at};
 
 use image_cache::Cache;
 use link_model::Linked;
 use omos_base::PathName;
-ghost use Rattle.image_cache.specs.Items.{item_at};
 
 /// Whether the path's item is of this version or a newer one.
 pub(crate) fn has_as_new(cache: &Cache, path: &PathName, version: u64) -> bool

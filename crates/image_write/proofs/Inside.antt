@@ -186,7 +186,8 @@ all-low parts places leaves h few =
             | inl w ↦ low-row parts (get_or places leaf []) w.0 piece
                 (leaf-at parts places leaves leaf w.0 h w.1 (sym w.3)) few
             | inr w ↦
-                let e : get_or places leaf [] ≡ [] = get_or_past places leaf [] (omega (arith, w.0)) in
+                let e : get_or places leaf [] ≡ [] =
+                get_or_past places leaf [] (omega (arith, w.0)) in
                 let z : get_or (get_or places leaf []) piece 0 ≡ 0 =
                 ap (λ (row : List ℕ). get_or row piece 0) e in
                 omega (arith, z)

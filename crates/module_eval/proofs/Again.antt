@@ -23,9 +23,9 @@ use Rattle.module_share.proofs.Fronts.{front_tree}
 use Rattle.module_share.proofs.Shifts.{first_refusal_shifted}
 use Rattle.module_table.specs.Stands.{StandsFor}
 use Rattle.module_table.specs.TableParts.{TableParts}
-use Rattle.module_eval.specs.Kept.{AreKept, IsKept, IsRun, StandsOr}
-use Rattle.module_eval.specs.Meant.{IsBuilt, Means}
-use Rattle.module_eval.specs.Walked.{tree_in}
+use Rattle.module_eval.specs.inside.Kept.{AreKept, IsKept, IsRun, StandsOr}
+use Rattle.module_eval.specs.inside.Meant.{IsBuilt, Means}
+use Rattle.module_eval.specs.inside.Walked.{tree_in}
 use Rattle.module_eval.specs.declared.memo.Kept.{Kept}
 use Rattle.module_eval.specs.declared.part.Part.{Part}
 use Rattle.module_eval.specs.declared.part.Part.TheVariants.{Built, Failed}

@@ -22,8 +22,8 @@ use Rattle.omos_model.specs.declared.refusal.Refusal.TheVariants.{NoEntry, Cycle
 use Rattle.omos_model.specs.Visit.{Visit}
 use Rattle.omos_model.specs.declared.refusal.Site.{Site}
 use Rattle.module_table.specs.Faults.{Tells}
-use Rattle.module_eval.specs.Counted.{StepsToNode, visit_of}
-use Rattle.module_eval.specs.Walked.{Walked, Bars, path_in, tree_in}
+use Rattle.module_eval.specs.inside.Counted.{StepsToNode, visit_of}
+use Rattle.module_eval.specs.inside.Walked.{Walked, Bars, path_in, tree_in}
 use Rattle.module_eval.specs.declared.counts.Counts.{Counts}
 use Rattle.module_eval.specs.declared.part.Part.{Part}
 use Rattle.module_eval.proofs.Joined.{means_any}

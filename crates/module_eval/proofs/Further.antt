@@ -8,8 +8,8 @@ use Rattle.omos_model.specs.FragmentParts.{FragmentParts}
 use Rattle.omos_model.specs.Namespace.{Space, look_up}
 use Rattle.omos_model.specs.declared.entry.Stamped.{Stamped}
 use Rattle.module_eval.specs.Costs.{IsReadAlone, StayRead, is_built}
-use Rattle.module_eval.specs.Found.{AreFound}
-use Rattle.module_eval.specs.Walks.{ComesBack, CountOn, MayGoOn}
+use Rattle.module_eval.specs.inside.Found.{AreFound}
+use Rattle.module_eval.specs.inside.Walks.{ComesBack, CountOn, MayGoOn}
 use Rattle.module_eval.specs.declared.counts.Counts.{Counts}
 use Rattle.module_eval.specs.declared.memo.Memo.{Memo}
 use Rattle.module_eval.specs.declared.walk.Walk.{Walk}

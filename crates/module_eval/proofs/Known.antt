@@ -18,7 +18,7 @@ use Rattle.module_share.proofs.Named.{WasOpened, named_so}
 use Rattle.module_eval.specs.Costs.{IsBuiltAlone, IsRead, IsReadAlone, StayBuilt, StayRead}
 use Rattle.module_eval.specs.Costs.{is_built}
 use Rattle.module_eval.specs.Costs.{operators, read_of}
-use Rattle.module_eval.specs.Known.{AreKnown, is_closed, is_closed_in, is_done}
+use Rattle.module_eval.specs.inside.Known.{AreKnown, is_closed, is_closed_in, is_done}
 use Rattle.module_eval.specs.declared.memo.Kept.{Kept}
 use Rattle.module_eval.proofs.Opened.{beyond, inside, outside}
 

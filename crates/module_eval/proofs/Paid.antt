@@ -11,8 +11,8 @@ use Rattle.omos_model.specs.declared.refusal.Refusal.{Refusal}
 use Rattle.module_share.specs.Trails.{Trail, front, trail, visited}
 use Rattle.module_share.proofs.Fronts.{front_law}
 use Rattle.module_eval.specs.Costs.{IsPaid, operators_of, read_of}
-use Rattle.module_eval.specs.Walked.{Expands, IsLimit, Walked}
-use Rattle.module_eval.specs.Walks.{ComesBack}
+use Rattle.module_eval.specs.inside.Walked.{Expands, IsLimit, Walked}
+use Rattle.module_eval.specs.inside.Walks.{ComesBack}
 use Rattle.module_eval.specs.declared.counts.Counts.{Counts}
 use Rattle.module_eval.specs.declared.walk.Walk.{Walk}
 use Rattle.module_eval.specs.declared.part.Part.{Part}

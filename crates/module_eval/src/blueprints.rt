@@ -7,11 +7,11 @@ ghost use Rattle.std.specs.Prelude.{◌≡◌, ℕ, ◌+◌, ◌≤◌, true, fa
 ghost use Rattle.omos_model.specs.Tree.{tree_of};
 ghost use Rattle.module_share.specs.Trails.{nested_on};
 ghost use Rattle.module_eval.specs.Costs.{is_built, operators};
-ghost use Rattle.module_eval.specs.Counted.{visit_of};
-ghost use Rattle.module_eval.specs.Kept.{IsKept};
-ghost use Rattle.module_eval.specs.Walked.{IsFree, IsLimit, Walked, tree_in};
-ghost use Rattle.module_eval.specs.Walks.{Charges, ComesBack, CountOn, GoesTo, IsCharged};
-ghost use Rattle.module_eval.specs.Walks.{MayGoOn, IsThere, space_of};
+ghost use Rattle.module_eval.specs.inside.Counted.{visit_of};
+ghost use Rattle.module_eval.specs.inside.Kept.{IsKept};
+ghost use Rattle.module_eval.specs.inside.Walked.{IsFree, IsLimit, Walked, tree_in};
+ghost use Rattle.module_eval.specs.inside.Walks.{Charges, ComesBack, CountOn, GoesTo, IsCharged};
+ghost use Rattle.module_eval.specs.inside.Walks.{MayGoOn, IsThere, space_of};
 
 use crate::exprs::visit_expr;
 use crate::memo::Kept;

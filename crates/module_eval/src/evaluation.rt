@@ -6,11 +6,11 @@ ghost use Rattle.omos_base.specs.Fault.{MatchFault};
 ghost use Rattle.omos_model.specs.Expansion.{expansion, first_visit};
 ghost use Rattle.link_model.specs.Module.{IsModule};
 ghost use Rattle.module_eval.specs.Costs.{IsPaid};
-ghost use Rattle.module_eval.specs.Counted.{visit_of};
+ghost use Rattle.module_eval.specs.inside.Counted.{visit_of};
 ghost use Rattle.module_eval.specs.Evaluations.{IsBuiltOn, IsEvaluatedOn, refusal_of};
-ghost use Rattle.module_eval.specs.Found.{AreFound};
-ghost use Rattle.module_eval.specs.Walked.{Expands};
-ghost use Rattle.module_eval.specs.Walks.{MayGoOn};
+ghost use Rattle.module_eval.specs.inside.Found.{AreFound};
+ghost use Rattle.module_eval.specs.inside.Walked.{Expands};
+ghost use Rattle.module_eval.specs.inside.Walks.{MayGoOn};
 
 use crate::footprint::entries_of;
 use crate::node::WalkFault;

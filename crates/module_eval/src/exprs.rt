@@ -8,11 +8,12 @@ ghost use Rattle.omos_model.specs.Term.{Term};
 ghost use Rattle.omos_model.specs.Tree.{tree_of};
 ghost use Rattle.module_share.specs.Trails.{Trail};
 ghost use Rattle.module_eval.specs.Costs.{joins, operators, owed, owed_by};
-ghost use Rattle.module_eval.specs.Counted.{visit_of};
-ghost use Rattle.module_eval.specs.Meant.{Means};
-ghost use Rattle.module_eval.specs.Pendings.{Comes, ComesTo, EndsAt, others_in};
-ghost use Rattle.module_eval.specs.Walked.{IsLimit, Walked, path_in, tree_in};
-ghost use Rattle.module_eval.specs.Walks.{Charges, ComesBack, CountOn, EndsFrom, MayGoOn, space_of};
+ghost use Rattle.module_eval.specs.inside.Counted.{visit_of};
+ghost use Rattle.module_eval.specs.inside.Meant.{Means};
+ghost use Rattle.module_eval.specs.inside.Pendings.{Comes, ComesTo, EndsAt, others_in};
+ghost use Rattle.module_eval.specs.inside.Walked.{IsLimit, Walked, path_in, tree_in};
+ghost use Rattle.module_eval.specs.inside.Walks.{Charges, ComesBack, CountOn, EndsFrom, MayGoOn};
+ghost use Rattle.module_eval.specs.inside.Walks.{space_of};
 
 use crate::counts::begin_node;
 use crate::node::WalkFault;

@@ -5,10 +5,10 @@ ghost use Rattle.omos_model.specs.Names.{Name};
 ghost use Rattle.omos_model.specs.Namespace.{Space};
 ghost use Rattle.omos_model.specs.Term.{Term};
 ghost use Rattle.module_eval.specs.Costs.{IsBuiltAlone, StayBuilt, is_built};
-ghost use Rattle.module_eval.specs.Counted.{AreCounted, visit_of};
-ghost use Rattle.module_eval.specs.Kept.{AreKept, Finds, IsKept, IsRun};
-ghost use Rattle.module_eval.specs.Meant.{Means};
-ghost use Rattle.module_eval.specs.Reaches.{Fits, IsReach, with_added};
+ghost use Rattle.module_eval.specs.inside.Counted.{AreCounted, visit_of};
+ghost use Rattle.module_eval.specs.inside.Kept.{AreKept, Finds, IsKept, IsRun};
+ghost use Rattle.module_eval.specs.inside.Meant.{Means};
+ghost use Rattle.module_eval.specs.inside.Reaches.{Fits, IsReach, with_added};
 
 use crate::counts::Counts;
 use crate::part::{Part, built};

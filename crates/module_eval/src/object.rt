@@ -5,11 +5,11 @@ ghost use Rattle.omos_model.specs.Expansion.{add_read};
 ghost use Rattle.module_share.specs.Trails.{and_on, begin_path_on, leaf_on};
 ghost use Rattle.omos_model.specs.FragmentParts.{FragmentParts};
 ghost use Rattle.module_table.specs.Stands.{IsObject};
-ghost use Rattle.module_eval.specs.Counted.{AreCounted, visit_of};
+ghost use Rattle.module_eval.specs.inside.Counted.{AreCounted, visit_of};
 ghost use Rattle.omos_model.specs.Namespace.{Space, look_up};
 ghost use Rattle.module_eval.specs.Costs.{IsReadAlone, StayRead, read_of};
-ghost use Rattle.module_eval.specs.Found.{AreFound};
-ghost use Rattle.module_eval.specs.Walked.{Walked};
+ghost use Rattle.module_eval.specs.inside.Found.{AreFound};
+ghost use Rattle.module_eval.specs.inside.Walked.{Walked};
 
 use crate::counts::{Counts, count_leaf, enter};
 use crate::leaf::Leaf;

@@ -7,9 +7,9 @@ ghost use Rattle.omos_model.specs.Term.{Term, Merge, Override, Apply};
 ghost use Rattle.omos_model.specs.declared.refusal.Refusal.{Refusal as Cause};
 ghost use Rattle.omos_model.specs.declared.refusal.Site.{Site as Place};
 ghost use Rattle.module_table.specs.Stands.{Answers, refusal_at};
-ghost use Rattle.module_eval.specs.Meant.{IsBuilt, Means, MeansWhere};
-ghost use Rattle.module_eval.specs.Operators.{op_of};
-ghost use Rattle.module_eval.specs.Walked.{term_with};
+ghost use Rattle.module_eval.specs.inside.Meant.{IsBuilt, Means, MeansWhere};
+ghost use Rattle.module_eval.specs.inside.Operators.{op_of};
+ghost use Rattle.module_eval.specs.inside.Walked.{term_with};
 
 use crate::leaf::Leaf;
 use crate::node::site;

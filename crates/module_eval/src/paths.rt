@@ -1,8 +1,9 @@
 //! The walk to a path, by what stands there.
 
 ghost use Rattle.std.specs.Prelude.{◌≡◌, ◌+◌, ◌≤◌, true, OnOk};
-ghost use Rattle.module_eval.specs.Walks.{ComesBack, CountOn, GoesTo, IsCharged, MayGoOn, IsThere};
-ghost use Rattle.module_eval.specs.Walks.{space_of};
+ghost use Rattle.module_eval.specs.inside.Walks.{ComesBack, CountOn, GoesTo, IsCharged, MayGoOn};
+ghost use Rattle.module_eval.specs.inside.Walks.{IsThere};
+ghost use Rattle.module_eval.specs.inside.Walks.{space_of};
 
 use crate::blueprints::{visit_again, visit_first};
 use crate::memo::Found;

@@ -2,9 +2,9 @@
 
 ghost use Rattle.std.specs.Prelude.{◌≡◌, ◌≤◌, ◌-◌, ◌↔◌, IsTrue, max};
 ghost use Rattle.omos_model.specs.Expansion.{max_blueprints};
-ghost use Rattle.module_eval.specs.Counted.{AreCounted, visit_of};
-ghost use Rattle.module_eval.specs.Reaches.{Fits, added, with_added};
-ghost use Rattle.module_eval.specs.Reaches.{PassesNoLimit, tally_of_visit};
+ghost use Rattle.module_eval.specs.inside.Counted.{AreCounted, visit_of};
+ghost use Rattle.module_eval.specs.inside.Reaches.{Fits, added, with_added};
+ghost use Rattle.module_eval.specs.inside.Reaches.{PassesNoLimit, tally_of_visit};
 
 use crate::counts::{Counts, MAX_LEAVES, MAX_NODES, MAX_SUM};
 use crate::opening::MAX_BLUEPRINTS;

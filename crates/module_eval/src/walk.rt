@@ -6,8 +6,8 @@
 ghost use Rattle.std.specs.Prelude.{◌≡◌, []};
 ghost use Rattle.omos_model.specs.Expansion.{first_visit};
 ghost use Rattle.omos_model.specs.Namespace.{Space};
-ghost use Rattle.module_eval.specs.Counted.{visit_of};
-ghost use Rattle.module_eval.specs.Walks.{MayGoOn};
+ghost use Rattle.module_eval.specs.inside.Counted.{visit_of};
+ghost use Rattle.module_eval.specs.inside.Walks.{MayGoOn};
 
 use crate::counts::Counts;
 use crate::memo::Memo;

@@ -1,6 +1,8 @@
 -- What the first bytes of a reply say, and what comes of a reply that isn't whole.
-use Rattle.std.proofs.Common.{◌≡◌, ℕ, ◌+◌, ◌-◌, ◌<◌, ◌≤◌, Bool, true, List, [], ◌∷◌, ◌++◌, length, Option, Err, Ok}
-use Rattle.std.proofs.Common.{refl, sym, ap, ◌∙◌, arith, length-append, append_assoc, append-nil, inl, inr, subst}
+use Rattle.std.proofs.Common.{◌≡◌, ℕ, ◌+◌, ◌-◌, ◌<◌, ◌≤◌, Bool, true, List, [], ◌∷◌, ◌++◌, length}
+use Rattle.std.proofs.Common.{Option, Err, Ok}
+use Rattle.std.proofs.Common.{refl, sym, ap, ◌∙◌, arith, length-append, append_assoc, append-nil}
+use Rattle.std.proofs.Common.{inl, inr, subst}
 use Rattle.std.specs.Prelude.{Result}
 use Rattle.omos_base.specs.Fields.{number_at}
 use Rattle.omos_outside.specs.Stream.{Stream, Gives}
@@ -45,10 +47,12 @@ pub no_frame : (first more : List ℕ) → length first ≡ 4
     → ((a : Answer) → IsReplyFrame (first ++ more) a → ⊥) → BeginNoReply (first ++ more)
 no_frame first more four whole none a tail h =
     let is = reply_fits ((first ++ more) ++ tail) a h in
-    let front = ap (number_at 4 0) (append_assoc first more tail) ∙ number_front first (more ++ tail) four in
+    let front = ap (number_at 4 0) (append_assoc first more tail)
+    ∙ number_front first (more ++ tail) four in
     let empty : length tail ≡ 0 =
     omega (arith, is.long, is.size, front, whole, length-append (first ++ more) tail) in
-    let same = ap (λ (t : List ℕ). (first ++ more) ++ t) (none_left tail empty) ∙ append-nil (first ++ more) in
+    let same = ap (λ (t : List ℕ). (first ++ more) ++ t) (none_left tail empty)
+    ∙ append-nil (first ++ more) in
     none a (subst (λ (bytes : List ℕ). IsReplyFrame bytes a) same h)
 
 -- ---- why a reply isn't whole
@@ -88,14 +92,17 @@ no_reply a b c first bytes four one two whole none =
     (bytes, gave_both a b c first bytes one two, subst BeginNoReply (sym two.added) is)
 
 -- a reply that the request may have, and no Bye behind it
-pub then_unheard : (e : Unheard) (command : Command) (x : Answer) (a b c : Option Stream) (first : List ℕ)
+pub then_unheard : (e : Unheard) (command : Command) (x : Answer) (a b c : Option Stream)
+    (first : List ℕ)
     → Gives a b first → IsReplyFrame first x → may_have command x ≡ true
     → ReceivesBye (Err e) b c → Hears (Err e) command a c
 then_unheard unheard.Ended command x a b c first given frame may h =
-    let answered : IsAnswered command x (first ++ h.0) h.0 = record { first = first; whole = refl; frame = frame; may = may } in
+    let answered : IsAnswered command x (first ++ h.0) h.0 =
+    record { first = first; whole = refl; frame = frame; may = may } in
     (first ++ h.0, Gives-then a b c first h.0 given h.1, (h.2.0, inr (x, h.0, answered, h.2.1)))
 then_unheard NotReply command x a b c first given frame may h =
-    let answered : IsAnswered command x (first ++ h.0) h.0 = record { first = first; whole = refl; frame = frame; may = may } in
+    let answered : IsAnswered command x (first ++ h.0) h.0 =
+    record { first = first; whole = refl; frame = frame; may = may } in
     (first ++ h.0, Gives-then a b c first h.0 given h.1, inr (inr (x, h.0, answered, h.2)))
 then_unheard unheard.SourceFailed command x a b c first given frame may h =
     (first ++ h.0, Gives-then a b c first h.0 given h.1, tt)

@@ -6,6 +6,7 @@ ghost use Rattle.omos_outside.specs.Faults.{Rose};
 ghost use Rattle.omos_client.specs.Errands.{Asked, asked_by, asked_of};
 ghost use Rattle.omos_client.specs.Runs.{outside};
 ghost use Rattle.omos_client.specs.Runs.{FollowsSending, RanAsked, RunsTo};
+ghost use Rattle.omos_client.specs.Ends.{client_status};
 
 use crate::ending::Ending;
 use crate::errand::{Errand, errand_of};
@@ -15,7 +16,6 @@ use crate::telling::tell;
 use omos_files::FileBox;
 use omos_outside::{Sink, Source};
 use std::alloc::Global;
-ghost use Rattle.omos_client.specs.Ends.{client_status};
 
 /// Reads the reply to a request that was sent, and tells it.
 fn finish<S: Source, F: FileBox, O: Sink>(

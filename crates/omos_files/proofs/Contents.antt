@@ -24,12 +24,14 @@ place_here name files f rest is same =
     sym (ap (place_of_file name) is ∙ ap (λ b. if b then 0 else place_of_file name rest + 1) same)
 
 pub place_next : (name : FileName) (files : List File) (f : File) (rest : List File)
-    → files ≡ f ∷ rest → is_same f.0 name ≡ false → place_of_file name rest + 1 ≡ place_of_file name files
+    → files ≡ f ∷ rest → is_same f.0 name ≡ false
+    → place_of_file name rest + 1 ≡ place_of_file name files
 place_next name files f rest is same =
     sym (ap (place_of_file name) is ∙ ap (λ b. if b then 0 else place_of_file name rest + 1) same)
 
 -- where a file of the name stands, its content is what stands there
-pub there : (name : FileName) (files : List File) (d : File) → place_of_file name files < length files
+pub there : (name : FileName) (files : List File) (d : File)
+    → place_of_file name files < length files
     → content_of name files ≡ Some (get_or files (place_of_file name files) d).1
 there name [] d lt = absurd (omega (arith, lt))
 there name (f ∷ files) d lt = go (is_same f.0 name) lt (λ h. there name files d h)
@@ -65,7 +67,8 @@ replaced name bytes (f ∷ files) d lt =
   where
     go : (b : Bool) → (if b then 0 else place_of_file name files + 1) < length (f ∷ files)
         → (place_of_file name files < length files
-        → set files (place_of_file name files) ((get_or files (place_of_file name files) d).0, bytes)
+        → set files (place_of_file name files)
+        ((get_or files (place_of_file name files) d).0, bytes)
         ≡ with_content name bytes files)
         → set (f ∷ files) (if b then 0 else place_of_file name files + 1)
         ((get_or (f ∷ files) (if b then 0 else place_of_file name files + 1) d).0, bytes)
@@ -93,7 +96,8 @@ added name bytes (f ∷ files) le =
     go false less later = ap (λ (fs : List File). f ∷ fs) (later (omega (arith, less)))
 
 -- the same for a place and a file that were found
-pub replaced_at : (name : FileName) (bytes : Content) (files : List File) (d : File) (k : ℕ) (g : File)
+pub replaced_at : (name : FileName) (bytes : Content) (files : List File) (d : File) (k : ℕ)
+    (g : File)
     → k ≡ place_of_file name files → k < length files → g ≡ get_or files k d
     → set files k (g.0, bytes) ≡ with_content name bytes files
 replaced_at name bytes files d k g at less is =

@@ -66,7 +66,8 @@ OthersStay name before now =
     (other : FileName) → is_same other name ≡ false → content_of other now ≡ content_of other before
 
 -- where the files are told, a write that is done changes the file of the name, and none another
-abbrev pub WritesFile : Option (List File) → Option (List File) → FileName → Content → FileWrote → Type 0
+abbrev pub WritesFile : Option (List File) → Option (List File) → FileName → Content → FileWrote
+    → Type 0
 WritesFile None now name bytes answer = ⊤
 WritesFile (Some before) None name bytes answer = ⊥
 WritesFile (Some before) (Some now) name bytes wrote.Done = now ≡ with_content name bytes before

@@ -4,13 +4,14 @@ ghost use Rattle.std.specs.Prelude.{◌≡◌, ◌^◌, ◌<◌, ◌≤◌, Some
 ghost use Rattle.omos_outside.specs.Faults.{Rose};
 ghost use Rattle.omos_files.specs.Files.{FitsLimit, Reads};
 ghost use Rattle.omos_files.specs.Files.{WritesFile};
+ghost use Rattle.omos_files.specs.ScriptedFiles.{AnswersFileRead, AnswersFileWrite};
+ghost use Rattle.omos_files.specs.ScriptedFiles.{after_file_read, after_file_write};
 
 use crate::calls::is_listed;
 use crate::files::{FileBox, FileRead, FileWrote};
 use crate::placing::{content_of, copy_of, put_copy};
 use omos_base::{Bytes, NoMemory, Row};
 use std::alloc::Global;
-ghost use Rattle.omos_files.specs.ScriptedFiles.{AnswersFileRead, AnswersFileWrite, after_file_read, after_file_write};
 use std::marker::Model;
 
 /// Files in memory. They fail at the listed calls, counted from 1, and a read also at a name that

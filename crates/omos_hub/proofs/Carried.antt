@@ -21,7 +21,7 @@ use Rattle.hub_store.specs.Links.{MayFinish}
 use Rattle.hub_store.specs.declared.reply.Outcome.{Outcome}
 use Rattle.hub_store.specs.declared.reply.Outcome.TheVariants as outcome
 use Rattle.hub_store.proofs.Kept.{version_grows}
-use Rattle.omos_hub.specs.Carries.{TicketsCarry, EndingsCarry}
+use Rattle.omos_hub.specs.inside.Carries.{TicketsCarry, EndingsCarry}
 
 -- the steps that follow a beginning of a record run on from it
 runs_on : (c r : ℕ) (D xs ys : List Step) → Runs c r D (xs ++ ys) → Runs c r (D ++ xs) ys

@@ -70,7 +70,8 @@ fn split_passes(
 }
 
 impl Hub {
-    /// A hub over an empty store, and its passes, numbered from 1. Tables of names hash by the seed.
+    /// A hub over an empty store, and its passes, numbered from 1. Tables of names hash by the
+    /// seed.
     pub fn open(
         alloc: Global,
         seed: Seed,

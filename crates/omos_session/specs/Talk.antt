@@ -87,7 +87,8 @@ PutTold Says Faults room seat path turns (reply.Published v) =
     (e : Entry) × (size : ℕ) × Says e size × (P : List Step) × (number : ℕ)
     × IsTurn turns P (Put seat number path e size ∷ []) × (v ≡ version_after P + 1)
 PutTold Says Faults room seat path turns reply.KeptFull =
-    (e : Entry) × (size : ℕ) × Says e size × (P : List Step) × IsTurn turns P [] × PassesMaxKept P size
+    (e : Entry) × (size : ℕ) × Says e size × (P : List Step) × IsTurn turns P []
+    × PassesMaxKept P size
 PutTold Says Faults room seat path turns (reply.Refused x) = Faults x × (turns ≡ [])
 PutTold Says Faults room seat path turns reply.Full = FindsNoRoom room turns
 PutTold Says Faults room seat path turns reply.NoMemory = IsMissed seat turns

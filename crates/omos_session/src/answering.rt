@@ -4,9 +4,10 @@ ghost use Rattle.std.specs.Prelude.{◌≡◌};
 ghost use Rattle.omos_wire.specs.Answer.{IsSendable};
 ghost use Rattle.omos_wire.specs.Message.{message_of};
 ghost use Rattle.omos_wire.specs.Message as message;
-ghost use Rattle.omos_session.specs.Parts.{Serves, ServesBy};
+ghost use Rattle.omos_session.specs.inside.Parts.{Serves, ServesBy};
 ghost use Rattle.omos_hub.specs.Standing.{CanCross, CanTurn};
 ghost use Rattle.omos_session.specs.Talk.{FlushTold, PlacesTold, StatsTold};
+ghost use Rattle.omos_session.specs.inside.Given.{answer_given};
 
 use crate::desk::Desk;
 use crate::given::Given;
@@ -17,7 +18,6 @@ use omos_base::PathName;
 use omos_wire::Request;
 use refusal_lines::Refused;
 use std::alloc::Global;
-ghost use Rattle.omos_session.specs.Given.{answer_given};
 
 fn answer_places<D: Desk>(desk: &mut D, path: &PathName) -> Given
     requires turns { CanTurn 4 (D.standing desk.old) }

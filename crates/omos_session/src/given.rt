@@ -2,6 +2,7 @@
 
 ghost use Rattle.std.specs.Prelude.{◌≡◌};
 ghost use Rattle.omos_wire.specs.Answer.{answer_of};
+ghost use Rattle.omos_session.specs.inside.Given.{answer_given};
 
 use hub_store::Counts;
 use link_model::Linked;
@@ -9,7 +10,6 @@ use omos_base::{Row, Shared};
 use omos_model::Placement;
 use omos_wire::Reply;
 use refusal_lines::Refused;
-ghost use Rattle.omos_session.specs.Given.{answer_given};
 
 /// A reply that owns what it holds; an image is shared with the cache.
 #[derive(Drop)]

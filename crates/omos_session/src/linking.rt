@@ -6,11 +6,14 @@ ghost use Rattle.link_model.specs.Answer.{answer};
 ghost use Rattle.hub_store.specs.Links.{MayFinish};
 ghost use Rattle.hub_store.specs.Parts.{IsTicket};
 ghost use Rattle.hub_store.specs.declared.reply.Outcome.TheVariants as outcome;
-ghost use Rattle.omos_session.specs.Parts.{Concludes, Goes, IsRight, MayMake, Makes, RefusesWith};
-ghost use Rattle.omos_session.specs.Parts.{ServesBy, outcome_of};
+ghost use Rattle.omos_session.specs.inside.Parts.{Concludes, Goes, IsRight, MayMake, Makes};
+ghost use Rattle.omos_session.specs.inside.Parts.{RefusesWith};
+ghost use Rattle.omos_session.specs.inside.Parts.{ServesBy, outcome_of};
 ghost use Rattle.omos_wire.specs.Answer.{IsSendable};
 ghost use Rattle.omos_hub.specs.Standing.{CanCross, CanTurn};
 ghost use Rattle.omos_session.specs.Talk.{LinkTold};
+ghost use Rattle.omos_session.specs.inside.Given.{answer_given};
+ghost use Rattle.omos_hub.specs.Calls.{PlansTicket};
 
 use crate::desk::Desk;
 use crate::given::Given;
@@ -21,8 +24,6 @@ use omos_base::{Fault, PathName, Shared};
 use omos_model::Refusal;
 use refusal_lines::Refused;
 use std::alloc::Global;
-ghost use Rattle.omos_session.specs.Given.{answer_given};
-ghost use Rattle.omos_hub.specs.Calls.{PlansTicket};
 
 /// What a link request came to.
 #[derive(Drop)]

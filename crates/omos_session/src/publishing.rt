@@ -2,9 +2,10 @@
 
 ghost use Rattle.std.specs.Prelude.{◌≡◌, ◌*◌, ◌≤◌, length};
 ghost use Rattle.omos_wire.specs.Answer.{IsSendable};
-ghost use Rattle.omos_session.specs.Parts.{MissTold, PublishTold, ServesBy};
+ghost use Rattle.omos_session.specs.inside.Parts.{MissTold, PublishTold, ServesBy};
 ghost use Rattle.omos_hub.specs.Standing.{CanTurn};
 ghost use Rattle.omos_session.specs.Talk.{FaultsObject, FaultsText, PutTold, SaysObject, SaysText};
+ghost use Rattle.omos_session.specs.inside.Given.{answer_given};
 
 use crate::desk::{Desk, Publishing};
 use crate::given::Given;
@@ -15,7 +16,6 @@ use omos_base::{Fault, PathName, Shared};
 use omos_model::{Entry, Image};
 use refusal_lines::Refused;
 use std::alloc::Global;
-ghost use Rattle.omos_session.specs.Given.{answer_given};
 
 /// Records that a put found no memory.
 fn miss<D: Desk>(desk: &mut D) -> Given

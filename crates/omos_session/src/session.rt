@@ -3,10 +3,10 @@
 ghost use Rattle.std.specs.Prelude.{◌≡◌, ◌^◌, ◌≤◌, ◌<◌, ◌↔◌, length, IsTrue};
 ghost use Rattle.omos_outside.specs.Faults.{Rose};
 ghost use Rattle.omos_wire.specs.Message.{End, message_of};
-ghost use Rattle.omos_session.specs.Parts.{IsServed};
+ghost use Rattle.omos_session.specs.inside.Parts.{IsServed};
 ghost use Rattle.omos_session.specs.Session.{IsSession};
-ghost use Rattle.omos_session.specs.Parts.{ending_of};
-ghost use Rattle.omos_session.specs.Parts.{IsPieceRead};
+ghost use Rattle.omos_session.specs.inside.Parts.{ending_of};
+ghost use Rattle.omos_session.specs.inside.Parts.{IsPieceRead};
 ghost use Rattle.omos_hub.specs.Standing.{CanCross, CanTurn};
 
 use crate::answering::answer;
@@ -98,7 +98,8 @@ fn serve_frame<D: Desk, K: Sink>(
 /// Reads a piece of the stream.
 fn read_piece<S: Source>(decoder: &mut Decoder, source: &mut S, buffer: &mut [u8]) -> Piece
     requires { 0 < length buffer.old }
-    ensures read { IsPieceRead result (S.told source.old) (S.told source.new) decoder.old decoder.new }
+    ensures read { IsPieceRead result (S.told source.old) (S.told source.new)
+        decoder.old decoder.new }
     ensures later { S.faults source.old ≤ S.faults source.new }
     ensures failed { result ≡ Piece.Failed → Rose (S.faults source.old) (S.faults source.new) }
 {

@@ -1,5 +1,7 @@
 -- The reply of a frame is made of its bytes, so it is one.
-use Rattle.std.proofs.Common.{◌≡◌, ℕ, zero, suc, ◌+◌, ◌^◌, ◌<◌, ◌≤◌, ◌==◌, Bool, true, false, if◌then◌else◌, List, [], ◌∷◌, ◌++◌, length, drop, refl, sym, ap, ◌∙◌, arith, Option, None, Some}
+use Rattle.std.proofs.Common.{◌≡◌, ℕ, zero, suc, ◌+◌, ◌^◌, ◌<◌, ◌≤◌, ◌==◌, Bool, true, false}
+use Rattle.std.proofs.Common.{if◌then◌else◌, List, [], ◌∷◌, ◌++◌, length, drop, refl, sym, ap, ◌∙◌}
+use Rattle.std.proofs.Common.{arith, Option, None, Some}
 use Rattle.std.specs.Prelude.{map, slice_index, slice_range}
 use Rattle.std.specs.List.{AllByRecursion, flat_map}
 use Rattle.byteorder.specs.Numbers.{little_number-reads_back}
@@ -15,17 +17,22 @@ use Rattle.omos_model.specs.declared.refusal.ObjectFault.TheVariants as object
 use Rattle.omos_model.specs.declared.refusal.Refusal.{Refusal}
 use Rattle.omos_model.specs.declared.refusal.Refusal.TheVariants as link
 use Rattle.omos_model.specs.declared.refusal.Site.{Site}
-use Rattle.refusal_lines.specs.Codes.{Field, Number, Wide, Path, Symbol, link_row, object_row, path_row, row_of, text_row}
+use Rattle.refusal_lines.specs.Codes.{Field, Number, Wide, Path, Symbol, link_row, object_row}
+use Rattle.refusal_lines.specs.Codes.{path_row, row_of, text_row}
 use Rattle.refusal_lines.specs.declared.refused.Refused.{Refused as Reason}
 use Rattle.refusal_lines.specs.declared.refused.Refused.TheVariants as code
-use Rattle.omos_wire.specs.Answer.{Answer, HasValues, IsReplyFrame, Published, Image, Refused, Places, Counts, Flushed, Bye, NoMemory, Full, KeptFull, flag, payload, reply_frame, span_bytes}
+use Rattle.omos_wire.specs.Answer.{Answer, HasValues, IsReplyFrame, Published, Image, Refused}
+use Rattle.omos_wire.specs.Answer.{Places, Counts, Flushed, Bye, NoMemory, Full, KeptFull, flag}
+use Rattle.omos_wire.specs.Answer.{payload, reply_frame, span_bytes}
 use Rattle.omos_wire.specs.Answer.{IsCodedSpan}
 use Rattle.refusal_lines.specs.Codes.{IsField}
 use Rattle.omos_wire.specs.Fielded.{field, field_bytes}
-use Rattle.omos_wire.specs.Reading.{Form, form_of, link_forms, object_forms, path_forms, text_forms, text_size}
-use Rattle.omos_wire.specs.Reading as form
+use Rattle.omos_wire.specs.inside.Reading.{Form, form_of, link_forms, object_forms, path_forms}
+use Rattle.omos_wire.specs.inside.Reading.{text_forms, text_size}
+use Rattle.omos_wire.specs.inside.Reading as form
 use Rattle.omos_wire.specs.declared.span.Span.{Span}
-use Rattle.omos_wire.proofs.Fitting.{behind, kind_in, length-spans, payload_is, text_behind, text_front}
+use Rattle.omos_wire.proofs.Fitting.{behind, kind_in, length-spans, payload_is, text_behind}
+use Rattle.omos_wire.proofs.Fitting.{text_front}
 
 -- ---- fields, by their forms
 
@@ -34,9 +41,11 @@ parse [] bytes = []
 parse (form.Number ∷ forms) bytes = Number (number_at 4 0 bytes) ∷ parse forms (drop 4 bytes)
 parse (form.Wide ∷ forms) bytes = Wide (number_at 8 0 bytes) ∷ parse forms (drop 8 bytes)
 parse (form.Path ∷ forms) bytes =
-    Path (slice_range bytes 2 (2 + text_size bytes)) ∷ parse forms (drop (2 + text_size bytes) bytes)
+    Path (slice_range bytes 2 (2 + text_size bytes))
+    ∷ parse forms (drop (2 + text_size bytes) bytes)
 parse (form.Symbol ∷ forms) bytes =
-    Symbol (slice_range bytes 2 (2 + text_size bytes)) ∷ parse forms (drop (2 + text_size bytes) bytes)
+    Symbol (slice_range bytes 2 (2 + text_size bytes))
+    ∷ parse forms (drop (2 + text_size bytes) bytes)
 
 four_back : (n : ℕ) (rest : List ℕ) → n < 2 ^ 32 → number_at 4 0 (little_bytes 4 n ++ rest) ≡ n
 unfolding number_at
@@ -46,24 +55,31 @@ eight_back : (n : ℕ) (rest : List ℕ) → n < 2 ^ 64 → number_at 8 0 (littl
 unfolding number_at
 eight_back n rest h = little_number-reads_back 8 n rest (omega (arith, h))
 
-parse_back : (fs : List Field) → AllByRecursion IsField fs → parse (map form_of fs) (flat_map field_bytes fs) ≡ fs
+parse_back : (fs : List Field) → AllByRecursion IsField fs
+    → parse (map form_of fs) (flat_map field_bytes fs) ≡ fs
 parse_back [] h = refl
 parse_back (Number n ∷ fs) h =
-    ap (λ (k : ℕ). Number k ∷ parse (map form_of fs) (flat_map field_bytes fs)) (four_back n (flat_map field_bytes fs) h.0)
+    ap (λ (k : ℕ). Number k ∷ parse (map form_of fs) (flat_map field_bytes fs))
+    (four_back n (flat_map field_bytes fs) h.0)
     ∙ ap (λ (gs : List Field). Number n ∷ gs) (parse_back fs h.1)
 parse_back (Wide n ∷ fs) h =
-    ap (λ (k : ℕ). Wide k ∷ parse (map form_of fs) (flat_map field_bytes fs)) (eight_back n (flat_map field_bytes fs) h.0)
+    ap (λ (k : ℕ). Wide k ∷ parse (map form_of fs) (flat_map field_bytes fs))
+    (eight_back n (flat_map field_bytes fs) h.0)
     ∙ ap (λ (gs : List Field). Wide n ∷ gs) (parse_back fs h.1)
 parse_back (Path s ∷ fs) h =
     let rest : List ℕ = flat_map field_bytes fs in
     let short : length s < 2 ^ 16 = omega (arith, h.0) in
-    ap (λ (t : List ℕ). Path t ∷ parse (map form_of fs) (drop (2 + text_size (field s ++ rest)) (field s ++ rest))) (text_front s rest short)
+    ap (λ (t : List ℕ). Path t
+    ∷ parse (map form_of fs) (drop (2 + text_size (field s ++ rest)) (field s ++ rest)))
+    (text_front s rest short)
     ∙ ap (λ (t : List ℕ). Path s ∷ parse (map form_of fs) t) (text_behind s rest short)
     ∙ ap (λ (gs : List Field). Path s ∷ gs) (parse_back fs h.1)
 parse_back (Symbol s ∷ fs) h =
     let rest : List ℕ = flat_map field_bytes fs in
     let short : length s < 2 ^ 16 = omega (arith, h.0) in
-    ap (λ (t : List ℕ). Symbol t ∷ parse (map form_of fs) (drop (2 + text_size (field s ++ rest)) (field s ++ rest))) (text_front s rest short)
+    ap (λ (t : List ℕ). Symbol t
+    ∷ parse (map form_of fs) (drop (2 + text_size (field s ++ rest)) (field s ++ rest)))
+    (text_front s rest short)
     ∙ ap (λ (t : List ℕ). Symbol s ∷ parse (map form_of fs) t) (text_behind s rest short)
     ∙ ap (λ (gs : List Field). Symbol s ∷ gs) (parse_back fs h.1)
 
@@ -97,7 +113,9 @@ some_or (Some forms) other = forms
 some_or None other = other
 
 abbrev forms_of : ℕ → List Form
-forms_of n = some_or (path_forms n) (some_or (object_forms n) (some_or (text_forms n) (some_or (link_forms n) [])))
+forms_of n =
+    some_or (path_forms n)
+    (some_or (object_forms n) (some_or (text_forms n) (some_or (link_forms n) [])))
 
 abbrev reason_of : ℕ → List Field → Reason
 reason_of n fs =
@@ -160,28 +178,42 @@ object_back object.Length h = refl
 object_back object.NotElf h = refl
 object_back object.Kind h = refl
 object_back object.Headers h = refl
-object_back (object.Section i) h = ap (reason_of 15) (parse_back (object_row (object.Section i)).fields h)
-object_back (object.Unsupported i) h = ap (reason_of 16) (parse_back (object_row (object.Unsupported i)).fields h)
+object_back (object.Section i) h =
+    ap (reason_of 15) (parse_back (object_row (object.Section i)).fields h)
+object_back (object.Unsupported i) h =
+    ap (reason_of 16) (parse_back (object_row (object.Unsupported i)).fields h)
 object_back object.Symbols h = refl
-object_back (object.Symbol k) h = ap (reason_of 18) (parse_back (object_row (object.Symbol k)).fields h)
-object_back (object.Twice s) h = ap (reason_of 19) (parse_back (object_row (object.Twice s)).fields h)
-object_back (object.Relas i) h = ap (reason_of 20) (parse_back (object_row (object.Relas i)).fields h)
-object_back (object.Rela i j) h = ap (reason_of 21) (parse_back (object_row (object.Rela i j)).fields h)
+object_back (object.Symbol k) h =
+    ap (reason_of 18) (parse_back (object_row (object.Symbol k)).fields h)
+object_back (object.Twice s) h =
+    ap (reason_of 19) (parse_back (object_row (object.Twice s)).fields h)
+object_back (object.Relas i) h =
+    ap (reason_of 20) (parse_back (object_row (object.Relas i)).fields h)
+object_back (object.Rela i j) h =
+    ap (reason_of 21) (parse_back (object_row (object.Rela i j)).fields h)
 
 link_back : (x : Refusal) → IsBack (code.Link x)
-link_back (link.NoEntry s p) h = ap (reason_of 41) (parse_back (link_row (link.NoEntry s p)).fields h)
+link_back (link.NoEntry s p) h =
+    ap (reason_of 41) (parse_back (link_row (link.NoEntry s p)).fields h)
 link_back (link.Cycle s p) h = ap (reason_of 42) (parse_back (link_row (link.Cycle s p)).fields h)
-link_back (link.TooDeep s p) h = ap (reason_of 43) (parse_back (link_row (link.TooDeep s p)).fields h)
+link_back (link.TooDeep s p) h =
+    ap (reason_of 43) (parse_back (link_row (link.TooDeep s p)).fields h)
 link_back (link.TooLarge s) h = ap (reason_of 44) (parse_back (link_row (link.TooLarge s)).fields h)
-link_back (link.Conflict s n) h = ap (reason_of 45) (parse_back (link_row (link.Conflict s n)).fields h)
+link_back (link.Conflict s n) h =
+    ap (reason_of 45) (parse_back (link_row (link.Conflict s n)).fields h)
 link_back (link.NoName s n) h = ap (reason_of 46) (parse_back (link_row (link.NoName s n)).fields h)
-link_back (link.NoDefinition s n) h = ap (reason_of 47) (parse_back (link_row (link.NoDefinition s n)).fields h)
+link_back (link.NoDefinition s n) h =
+    ap (reason_of 47) (parse_back (link_row (link.NoDefinition s n)).fields h)
 link_back (link.Taken s n) h = ap (reason_of 48) (parse_back (link_row (link.Taken s n)).fields h)
-link_back (link.ImageTooLarge n) h = ap (reason_of 49) (parse_back (link_row (link.ImageTooLarge n)).fields h)
+link_back (link.ImageTooLarge n) h =
+    ap (reason_of 49) (parse_back (link_row (link.ImageTooLarge n)).fields h)
 link_back (link.NoStart n) h = ap (reason_of 50) (parse_back (link_row (link.NoStart n)).fields h)
-link_back (link.Unresolved l f n) h = ap (reason_of 51) (parse_back (link_row (link.Unresolved l f n)).fields h)
-link_back (link.NoRoom n a b) h = ap (reason_of 52) (parse_back (link_row (link.NoRoom n a b)).fields h)
-link_back (link.Overflow l f) h = ap (reason_of 53) (parse_back (link_row (link.Overflow l f)).fields h)
+link_back (link.Unresolved l f n) h =
+    ap (reason_of 51) (parse_back (link_row (link.Unresolved l f n)).fields h)
+link_back (link.NoRoom n a b) h =
+    ap (reason_of 52) (parse_back (link_row (link.NoRoom n a b)).fields h)
+link_back (link.Overflow l f) h =
+    ap (reason_of 53) (parse_back (link_row (link.Overflow l f)).fields h)
 
 reason_back : (x : Reason) → IsBack x
 reason_back (code.Path x) h = path_back x h
@@ -194,32 +226,37 @@ reason_back (code.Link x) h = link_back x h
 abbrev spans_in : ℕ → List ℕ → List Span
 spans_in zero bytes = []
 spans_in (suc n) bytes =
-    (record { base = number_at 8 0 bytes; pages = number_at 4 0 (drop 8 bytes) }) ∷ spans_in n (drop 12 bytes)
+    (record { base = number_at 8 0 bytes; pages = number_at 4 0 (drop 8 bytes) })
+    ∷ spans_in n (drop 12 bytes)
 
-spans_back : (ss : List Span) → AllByRecursion IsCodedSpan ss → spans_in (length ss) (flat_map span_bytes ss) ≡ ss
+spans_back : (ss : List Span) → AllByRecursion IsCodedSpan ss
+    → spans_in (length ss) (flat_map span_bytes ss) ≡ ss
 spans_back [] h = refl
 spans_back (s ∷ ss) h =
     let rest : List ℕ = flat_map span_bytes ss in
     let more : List Span = spans_in (length ss) rest in
-    ap (λ (n : ℕ). (record { base = n; pages = number_at 4 0 (little_bytes 4 s.pages ++ rest) }) ∷ more) (eight_back s.base (little_bytes 4 s.pages ++ rest) h.0.0)
+    ap (λ (n : ℕ). (record { base = n; pages = number_at 4 0 (little_bytes 4 s.pages ++ rest) })
+    ∷ more) (eight_back s.base (little_bytes 4 s.pages ++ rest) h.0.0)
     ∙ ap (λ (n : ℕ). (record { base = s.base; pages = n }) ∷ more) (four_back s.pages rest h.0.1)
     ∙ ap (λ (t : List Span). s ∷ t) (spans_back ss h.1)
 
 abbrev nine : List Form
-nine = form.Wide ∷ form.Wide ∷ form.Wide ∷ form.Wide ∷ form.Wide ∷ form.Wide ∷ form.Wide ∷ form.Wide ∷ form.Wide ∷ []
+nine = form.Wide ∷ form.Wide ∷ form.Wide ∷ form.Wide ∷ form.Wide ∷ form.Wide ∷ form.Wide ∷ form.Wide
+    ∷ form.Wide ∷ []
 
 abbrev totals_in : List Field → Totals
-totals_in (Wide a ∷ Wide b ∷ Wide c ∷ Wide d ∷ Wide e ∷ Wide f ∷ Wide g ∷ Wide h ∷ Wide i ∷ []) = record {
-  version = a;
-  paths = b;
-  placements = c;
-  asked = d;
-  hits = e;
-  stored = f;
-  evicted = g;
-  held = h;
-  steps = i;
-}
+totals_in (Wide a ∷ Wide b ∷ Wide c ∷ Wide d ∷ Wide e ∷ Wide f ∷ Wide g ∷ Wide h ∷ Wide i ∷ []) =
+    record {
+      version = a;
+      paths = b;
+      placements = c;
+      asked = d;
+      hits = e;
+      stored = f;
+      evicted = g;
+      held = h;
+      steps = i;
+    }
 totals_in _ = record {
   version = 0;
   paths = 0;
@@ -240,7 +277,8 @@ widths n =
 abbrev reply_at : ℕ → List ℕ → Answer
 reply_at kind bytes =
     if kind == 129 then Published (number_at 8 0 bytes)
-    else if kind == 130 then Image (number_at 8 0 bytes) (number_at 8 0 (drop 8 bytes)) (drop 16 bytes)
+    else if kind == 130 then Image (number_at 8 0 bytes) (number_at 8 0 (drop 8 bytes))
+    (drop 16 bytes)
     else if kind == 131 then Refused (reason_at (slice_index bytes 0) (drop 1 bytes))
     else if kind == 132 then Places (spans_in (number_at 4 0 bytes) (drop 4 bytes))
     else if kind == 133 then Counts (totals_in (parse nine bytes))
@@ -254,17 +292,21 @@ flag_back : (held : Bool) → (flag held == 1) ≡ held
 flag_back true = refl
 flag_back false = refl
 
-reply_back : (a : Answer) → HasValues a → length (payload a) ≤ 16777216 → reply_at (kind_in a) (behind a) ≡ a
+reply_back : (a : Answer) → HasValues a → length (payload a) ≤ 16777216
+    → reply_at (kind_in a) (behind a) ≡ a
 reply_back (Published v) h few = ap Published (eight_back v [] h)
 reply_back (Image v base bytes) h few =
-    ap (λ (n : ℕ). Image n (number_at 8 0 (little_bytes 8 base ++ bytes)) bytes) (eight_back v (little_bytes 8 base ++ bytes) h.0)
+    ap (λ (n : ℕ). Image n (number_at 8 0 (little_bytes 8 base ++ bytes)) bytes)
+    (eight_back v (little_bytes 8 base ++ bytes) h.0)
     ∙ ap (λ (n : ℕ). Image v n bytes) (eight_back base bytes h.1)
 reply_back (Refused x) h few = ap Refused (reason_back x h)
 reply_back (Places ss) h few =
     let bytes : List ℕ = flat_map span_bytes ss in
-    ap (λ (n : ℕ). Places (spans_in n bytes)) (four_back (length ss) bytes (omega (arith, few, length-spans ss)))
+    ap (λ (n : ℕ). Places (spans_in n bytes))
+    (four_back (length ss) bytes (omega (arith, few, length-spans ss)))
     ∙ ap Places (spans_back ss h)
-reply_back (Counts n) h few = ap (λ (fs : List Field). Counts (totals_in fs)) (parse_back (widths n) h)
+reply_back (Counts n) h few =
+    ap (λ (fs : List Field). Counts (totals_in fs)) (parse_back (widths n) h)
 reply_back (Flushed held) h few = ap Flushed (flag_back held)
 reply_back Bye h few = refl
 reply_back NoMemory h few = refl
@@ -276,7 +318,8 @@ unfolding reply_frame
 payload_in a = refl
 
 -- a frame is of one reply
-pub one_reply : (bytes : List ℕ) (a b : Answer) → IsReplyFrame bytes a → IsReplyFrame bytes b → a ≡ b
+pub one_reply : (bytes : List ℕ) (a b : Answer) → IsReplyFrame bytes a → IsReplyFrame bytes b
+    → a ≡ b
 one_reply bytes a b ha hb =
     let same : payload a ≡ payload b =
     sym (payload_in a) ∙ ap (drop 4) (sym ha.frame ∙ hb.frame) ∙ payload_in b in

@@ -7,6 +7,8 @@ use Rattle.omos_wire.specs.declared.span.Span.{Span}
 use Rattle.omos_wire.proofs.Fitting.{length-spans}
 
 -- a list of placements is read back, if it isn't too long
-pub readable_places : (ss : List Span) → 5 + 12 * length ss ≤ longest_reply → AllByRecursion IsCodedSpan ss
+pub readable_places : (ss : List Span) → 5 + 12 * length ss ≤ longest_reply
+    → AllByRecursion IsCodedSpan ss
     → IsReplyFrame (reply_frame (Places ss)) (Places ss)
-readable_places ss few h = record { frame = refl; size = omega (arith, few, length-spans ss); values = h }
+readable_places ss few h =
+    record { frame = refl; size = omega (arith, few, length-spans ss); values = h }

@@ -10,7 +10,8 @@ use Rattle.omos_wire.specs.declared.request.FrameCause.{FrameCause}
 -- a frame is seen as that of its request, whatever follows it
 abbrev pub SeenLaw : Type 0
 SeenLaw =
-    (m : Message) (rest : List ℕ) → HasFrame m → sight (frame m ++ rest) ≡ Whole m (length (frame m))
+    (m : Message) (rest : List ℕ) → HasFrame m
+    → sight (frame m ++ rest) ≡ Whole m (length (frame m))
 
 -- a stream has one list of frames and one rest
 abbrev pub OneCutLaw : Type 0

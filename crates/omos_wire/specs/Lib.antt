@@ -4,8 +4,6 @@ pub mod Sight
 pub mod Stream
 pub mod Found
 pub mod Answer
-pub mod Heads
 pub mod Laws
-pub mod Reading
-pub mod Taking
 pub mod Read
+pub mod inside

@@ -2,12 +2,13 @@
 
 ghost use Rattle.std.specs.Prelude.{◌<◌, ◌∷◌, [], length, MatchOption};
 ghost use Rattle.omos_base.specs.Fault.{MatchFault};
-ghost use Rattle.omos_wire.specs.Reading.{FitsForms, Number, Path, Symbol, Wide};
+ghost use Rattle.omos_wire.specs.inside.Reading.{FitsForms, Number, Path, Symbol, Wide};
 ghost use Rattle.refusal_lines.specs.Codes.{sited};
-ghost use Rattle.omos_wire.specs.Taking.{NoSite, TookSite};
+ghost use Rattle.omos_wire.specs.inside.Taking.{NoSite, TookSite};
 ghost use Rattle.omos_base.specs.Paths.{IsPath};
 ghost use Rattle.omos_base.specs.SymNames.{IsSymName};
-ghost use Rattle.omos_wire.specs.Taking.{AreFields, NoText, NoTextOf, TookNumber, TookOf, TookText};
+ghost use Rattle.omos_wire.specs.inside.Taking.{AreFields, NoText, NoTextOf, TookNumber, TookOf};
+ghost use Rattle.omos_wire.specs.inside.Taking.{TookText};
 ghost use Rattle.refusal_lines.specs.Codes as codes;
 
 use crate::owned_reply::NotReply;

@@ -7,8 +7,8 @@ ghost use Rattle.omos_base.specs.Endian.{little_bytes};
 ghost use Rattle.omos_wire.specs.Answer.{IsSendable, answer_of, flag, reply_frame};
 ghost use Rattle.omos_wire.specs.Answer.{longest_reply, span_bytes};
 ghost use Rattle.omos_wire.specs.Answer.{nine_counts, wire_span};
-ghost use Rattle.omos_wire.specs.Heads.{bulk};
-ghost use Rattle.omos_wire.specs.Heads.{HasFixedWidth};
+ghost use Rattle.omos_wire.specs.inside.Heads.{bulk};
+ghost use Rattle.omos_wire.specs.inside.Heads.{HasFixedWidth};
 
 use crate::reply::Reply;
 use arrayvec::ArrayVec;

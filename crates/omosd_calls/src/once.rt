@@ -6,6 +6,7 @@ ghost use Rattle.omosd_calls.specs.Input.{HasRead, ToldInput};
 ghost use Rattle.omosd_calls.specs.Output.{HasWritten, HasWrittenPart, ToldOutput};
 ghost use Rattle.omosd_calls.specs.Once.{Answered, IsOutput, WroteLine};
 ghost use Rattle.omosd_calls.specs.Words.{IsOnce};
+ghost use Rattle.omosd_calls.specs.Lone.{IsLoneImage, IsRefusalLine};
 
 use crate::cause::{Cause, line_of};
 use crate::ending::Ending;
@@ -16,7 +17,6 @@ use omos_base::Fault;
 use omos_outside::{Sent, Sink, Source, write_all};
 use seeded_hash::Seed;
 use std::alloc::Global;
-ghost use Rattle.omosd_calls.specs.Lone.{IsLoneImage, IsRefusalLine};
 
 /// Writes the line that says why a file has no image.
 fn write_line<K: Sink>(cause: &Cause, sink: &mut K) -> Ending

@@ -1,7 +1,8 @@
 -- A hub may be shared between threads: each of the types that it is made of may cross to another.
 -- The stages are lemmas, since one search for the whole hits its limits.
 --     hub_sync      the one that is asked for
-use denote.Param.Send.{IsSend, IsSync, sendable, view_send, view_sync, recorded_send, recorded_sync, struct_send, struct_sync}
+use denote.Param.Send.{IsSend, IsSync, sendable, view_send, view_sync, recorded_send, recorded_sync}
+use denote.Param.Send.{struct_send, struct_sync}
 use denote.Param.SendFields.{declared_send, declared_sync, variants_send, as_row_send, as_row_sync}
 use Rattle.std.proofs.Crossing.{crosses}
 use Rattle.omos_model.proofs.expr.Expr.TheLaws.TheKnot as knot
@@ -144,19 +145,25 @@ stamped_sync = search crossing depth 60 fits 20000
 
 module _ (R : denote.RattleType.RattleType) (s : IsSend R) (t : IsSync R) where
   row_send : IsSend (shared.the_row (row.the_row R))
-  row_send = shared_crosses.the_send (row.the_row R) (row_crosses.the_send R s) (row_crosses.the_sync R t)
+  row_send =
+      shared_crosses.the_send (row.the_row R) (row_crosses.the_send R s) (row_crosses.the_sync R t)
 
   row_sync : IsSync (shared.the_row (row.the_row R))
-  row_sync = shared_crosses.the_sync (row.the_row R) (row_crosses.the_send R s) (row_crosses.the_sync R t)
+  row_sync =
+      shared_crosses.the_sync (row.the_row R) (row_crosses.the_send R s) (row_crosses.the_sync R t)
 
   few_send : IsSend (shared.the_row (few.the_row R))
-  few_send = shared_crosses.the_send (few.the_row R) (few_crosses.the_send R s) (few_crosses.the_sync R t)
+  few_send =
+      shared_crosses.the_send (few.the_row R) (few_crosses.the_send R s) (few_crosses.the_sync R t)
 
   few_sync : IsSync (shared.the_row (few.the_row R))
-  few_sync = shared_crosses.the_sync (few.the_row R) (few_crosses.the_send R s) (few_crosses.the_sync R t)
+  few_sync =
+      shared_crosses.the_sync (few.the_row R) (few_crosses.the_send R s) (few_crosses.the_sync R t)
 
   small_send : IsSend (shared.the_row (small.the_row R))
-  small_send = shared_crosses.the_send (small.the_row R) (small_crosses.the_send R s) (small_crosses.the_sync R t)
+  small_send =
+      shared_crosses.the_send (small.the_row R) (small_crosses.the_send R s)
+      (small_crosses.the_sync R t)
 
 leaf_send : IsSend (shared.the_row (row.the_row stamped.the_row))
 leaf_send = row_send stamped.the_row stamped_send stamped_sync
@@ -176,29 +183,53 @@ branch_send = few_send _ page_send page_sync
 branch_sync : IsSync (shared.the_row (few.the_row (shared.the_row (few.the_row stamped.the_row))))
 branch_sync = few_sync _ page_send page_sync
 
-branches_send : IsSend (shared.the_row (few.the_row (shared.the_row (few.the_row (shared.the_row (few.the_row stamped.the_row))))))
+branches_send : IsSend
+    (shared.the_row
+    (few.the_row (shared.the_row (few.the_row (shared.the_row (few.the_row stamped.the_row))))))
 branches_send = few_send _ branch_send branch_sync
 
-small_branches_send : IsSend (shared.the_row (small.the_row (shared.the_row (few.the_row (shared.the_row (few.the_row stamped.the_row))))))
+small_branches_send : IsSend
+    (shared.the_row
+    (small.the_row (shared.the_row (few.the_row (shared.the_row (few.the_row stamped.the_row))))))
 small_branches_send = small_send _ branch_send branch_sync
 
-many_send : IsSend (shared.the_row (row.the_row (shared.the_row (few.the_row (shared.the_row (few.the_row stamped.the_row))))))
+many_send : IsSend
+    (shared.the_row
+    (row.the_row (shared.the_row (few.the_row (shared.the_row (few.the_row stamped.the_row))))))
 many_send = row_send _ branch_send branch_sync
 
 root_send : IsSend root.the_row
 root_send = search (small_branches_send, branches_send, many_send, sendable) depth 60 fits 20000
 
 inside_send : IsSend inside.the_row
-inside_send = declared_send inside.the_type (search (crosses, sendable) depth 20 fits 4000, (search (seed_crosses.the_field_send, seed_crosses.the_send, hasher_crosses.the_field_send, hasher_crosses.the_send, crosses, sendable) depth 20 fits 4000, (search (root_send, as_row_send, sendable) depth 20 fits 4000, (search sendable, tt))))
+inside_send =
+    declared_send inside.the_type (
+      search (crosses, sendable) depth 20 fits 4000,
+      (
+        search (
+          seed_crosses.the_field_send,
+          seed_crosses.the_send,
+          hasher_crosses.the_field_send,
+          hasher_crosses.the_send,
+          crosses,
+          sendable,
+        ) depth 20 fits 4000,
+        (search (root_send, as_row_send, sendable) depth 20 fits 4000, (search sendable, tt)),
+      ),
+    )
 
 snap_send : IsSend snap.the_row
 snap_send = search (inside_send, sendable) depth 20 fits 4000
 
 linked_send : IsSend linked.the_row
-linked_send = search (leaf_send, bytes_crosses.the_send, pathname_crosses.the_send, sendable) depth 20 fits 4000
+linked_send =
+    search (leaf_send, bytes_crosses.the_send, pathname_crosses.the_send, sendable) depth 20 fits
+    4000
 
 linked_sync : IsSync linked.the_row
-linked_sync = search (leaf_sync, bytes_crosses.the_sync, pathname_crosses.the_sync, sendable) depth 20 fits 4000
+linked_sync =
+    search (leaf_sync, bytes_crosses.the_sync, pathname_crosses.the_sync, sendable) depth 20 fits
+    4000
 
 entry_send : IsSend entry.the_row
 entry_send = search crossing depth 60 fits 20000
@@ -213,16 +244,27 @@ brief_send : IsSend brief.the_row
 brief_send = search (shared_entry, note_crosses.the_field_send, sendable) depth 60 fits 20000
 
 record_send : IsSend recorded.the_row
-record_send = search (brief_send, vec_crosses.the_send, tally_crosses.the_field_send, crosses, sendable) depth 60 fits 20000
+record_send =
+    search (brief_send, vec_crosses.the_send, tally_crosses.the_field_send, crosses, sendable) depth
+    60 fits 20000
 
 shared_linked : IsSend (shared.the_row linked.the_row)
 shared_linked = shared_crosses.the_send linked.the_row linked_send linked_sync
 
 item_send : IsSend item.the_row
-item_send = declared_send item.the_type (search (shared_linked, as_row_send, sendable) depth 60 fits 20000)
+item_send =
+    declared_send item.the_type (search (shared_linked, as_row_send, sendable) depth 60 fits 20000)
 
 cache_send : IsSend cache.the_row
-cache_send = search (item_send, arrayvec_crosses.the_send, option_crosses.the_send, option_crosses.the_field_send, crosses, sendable) depth 60 fits 20000
+cache_send =
+    search (
+      item_send,
+      arrayvec_crosses.the_send,
+      option_crosses.the_send,
+      option_crosses.the_field_send,
+      crosses,
+      sendable,
+    ) depth 60 fits 20000
 
 book_send : IsSend book.the_row
 book_send = book_crosses.the_send

@@ -12,7 +12,8 @@ module _ {D G : Type 0} (state : D → DoorState) (crossings : G → ℕ) where
       ((state s.door).is_shut ≡ false) × ((state s.door).links ≡ 0)
       × ((state s.door).faults ≡ 0) × (crossings s.gate ≡ 0)
 
-  new_is_open : (s : Slot D G) → IsNew s → IsOpenSlot (record { door = state s.door; crossed = crossings s.gate })
+  new_is_open : (s : Slot D G) → IsNew s
+      → IsOpenSlot (record { door = state s.door; crossed = crossings s.gate })
   new_is_open s new = record {
     open_is = new.0;
     links = let l = new.1 in omega (arith, l);
@@ -20,7 +21,8 @@ module _ {D G : Type 0} (state : D → DoorState) (crossings : G → ℕ) where
     crossed = let k = new.3 in omega (arith, k);
   }
 
-  pub all_open : (slots : List (Slot D G)) → All IsNew slots → AreOpen (slot_states state crossings slots)
+  pub all_open : (slots : List (Slot D G)) → All IsNew slots
+      → AreOpen (slot_states state crossings slots)
   all_open [] all = tt
   all_open (s ∷ slots) all =
       (new_is_open s (All-head IsNew s slots all), all_open slots (All-tail IsNew s slots all))

@@ -82,7 +82,8 @@ kept_of w =
 
 -- since its door was so
 abbrev pub FitsFrom : TableId → DoorState → WorkerState → Type 0
-FitsFrom hub start w = IsWorkerOf hub w.pass start w.door w.crossed w.calls w.links w.stopped w.failed
+FitsFrom hub start w =
+    IsWorkerOf hub w.pass start w.door w.crossed w.calls w.links w.stopped w.failed
 
 abbrev pub FitsHub : TableId → WorkerState → Type 0
 FitsHub hub w = (start : DoorState) × FitsFrom hub start w

@@ -22,7 +22,8 @@ pub record SlotState : Type 0 where
   pub crossed : ℕ
 
 -- the states of slots
-abbrev pub slot_states : {D G : Type 0} → (D → DoorState) → (G → ℕ) → List (Slot D G) → List SlotState
+abbrev pub slot_states : {D G : Type 0} → (D → DoorState) → (G → ℕ) → List (Slot D G)
+    → List SlotState
 slot_states state crossings slots =
     map (λ s. record { door = state s.door; crossed = crossings s.gate }) slots
 

@@ -32,8 +32,8 @@ pub struct Served {
 }
 
 /// Each slot's worker serves the links that come at its door, until all sessions are drawn or its
-/// door gives no more. All memory but that of the sessions is taken before the first link. Tables of
-/// names hash by the seed.
+/// door gives no more. All memory but that of the sessions is taken before the first link. Tables
+/// of names hash by the seed.
 pub fn serve_slots<R: Threads + Wait + Sync, D: Door + Send + Drop, G: Gate + Send + Drop>(
     rt: &R,
     alloc: Global,

@@ -47,10 +47,10 @@ fn said_of(words: &[String], slots: usize) -> Option<SocketWords>
 /// written: `sessions N requests R version V placements L hits H stored T evicted E`.
 ///
 /// The words are `socket PATH WORKERS SESSIONS CACHE STEPS`, with as many workers as there are
-/// slots. The path is `main`'s: it makes the doors, and draws the seed by which tables of names hash.
-/// The result is the status: 0 all is done; 2 the
-/// words are others; 4 the sink failed; 8 there was no memory, and then no door was asked; 9 a door
-/// failed. A session's own end changes no status.
+/// slots. The path is `main`'s: it makes the doors, and draws the seed by which tables of names
+/// hash. The result is the status: 0 all is done; 2 the words are others; 4 the sink failed; 8
+/// there was no memory, and then no door was asked; 9 a door failed. A session's own end changes no
+/// status.
 pub fn omosd_socket<
     R: Threads + Wait + Sync,
     D: Door + Send + Drop,

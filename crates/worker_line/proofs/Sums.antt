@@ -5,7 +5,7 @@ use mathlib.Core.Option.{some, some-ne-none, some-injective}
 use lib.ListN.{get_elem?}
 use Rattle.std.proofs.lemmas.Bool.Decides.{nat_tests}
 use Rattle.worker_line.specs.Numbers.{times, once_below}
-use Rattle.worker_line.specs.Shares.{sum_over}
+use Rattle.worker_line.specs.inside.Shares.{sum_over}
 
 module _ {V : Type 0} (f : V → ℕ) where
   pub total_set : (vs : List V) (i : ℕ) (v w : V) → get_elem? vs i ≡ some v

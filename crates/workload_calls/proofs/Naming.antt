@@ -1,5 +1,6 @@
 -- `f` and a number is a name, and no long one.
-use Rattle.std.proofs.Common.{ℕ, ◌+◌, ◌<◌, ◌≤◌, ◌^◌, ◌%◌, List, [], ◌∷◌, length, arith, inl, length-append}
+use Rattle.std.proofs.Common.{ℕ, ◌+◌, ◌<◌, ◌≤◌, ◌^◌, ◌%◌, List, [], ◌∷◌, length, arith, inl}
+use Rattle.std.proofs.Common.{length-append}
 use Rattle.std.proofs.lemmas.Fmt.{decimal_by_steps, length-decimal-le}
 use Rattle.std.proofs.lemmas.List.Elements.{All-append, All-cons, All-nil}
 use Rattle.std.specs.Prelude.{codes, decimal}
@@ -23,7 +24,8 @@ digits_named n h =
     decimal_by_steps (λ _ ds. All IsNameByte ds)
     (λ d small. All-cons IsNameByte (48 + d) [] (digit_named d small) (All-nil IsNameByte))
     (λ d ds _ before. All-append IsNameByte ds ((48 + d % 10) ∷ []) before
-    (All-cons IsNameByte (48 + d % 10) [] (digit_named (d % 10) (omega arith)) (All-nil IsNameByte)))
+    (All-cons IsNameByte (48 + d % 10) [] (digit_named (d % 10) (omega arith))
+    (All-nil IsNameByte)))
     n h
 
 pub short_number : (n : ℕ) → n < 2 ^ 32 → length (decimal n) ≤ 10
@@ -40,8 +42,12 @@ f_named = (
 
 pub function_named : (n : ℕ) → n < 2 ^ 32 → IsSymName (numbered (codes "f") n)
 function_named n h = (
-  (omega (arith, length-append (codes "f") (decimal n)), omega (arith, length-append (codes "f") (decimal n), short_number n h)),
-  All-append IsNameByte (102 ∷ []) (decimal n) (All-cons IsNameByte 102 [] f_named (All-nil IsNameByte)) (digits_named n (omega arith)),
+  (
+    omega (arith, length-append (codes "f") (decimal n)),
+    omega (arith, length-append (codes "f") (decimal n), short_number n h),
+  ),
+  All-append IsNameByte (102 ∷ []) (decimal n)
+      (All-cons IsNameByte 102 [] f_named (All-nil IsNameByte)) (digits_named n (omega arith)),
 )
 
 -- a name has no fault

@@ -68,4 +68,5 @@ stream_bytes n = flat_map frame (workload n)
 
 -- the frames of these requests, each of which has one, were added to a stream
 abbrev pub AddsFrames : List ℕ → List ℕ → List Message → Type 0
-AddsFrames old new requests = (new ≡ old ++ flat_map frame requests) × AllByRecursion HasFrame requests
+AddsFrames old new requests = (new ≡ old ++ flat_map frame requests)
+    × AllByRecursion HasFrame requests

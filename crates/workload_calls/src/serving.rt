@@ -8,6 +8,8 @@ ghost use Rattle.workload_calls.specs.Replies.{HasFigures, replies_bytes};
 ghost use Rattle.workload_calls.specs.Stream.{stream_bytes, workload};
 ghost use Rattle.workload_calls.specs.Workload.{HasTalked, cache, room};
 ghost use Rattle.workload_calls.specs.Workload.{IsServedWorkload};
+ghost use Rattle.workload_calls.specs.Lines.{TellsFigures};
+ghost use Rattle.omos_wire.specs.Message.{HasFrame};
 
 use crate::frames::stream;
 use crate::line::line_of;
@@ -18,8 +20,6 @@ use omos_outside::{MemorySink, MemorySource};
 use omos_session::{SessionEnd, serve_owned};
 use seeded_hash::Seed;
 use std::alloc::Global;
-ghost use Rattle.workload_calls.specs.Lines.{TellsFigures};
-ghost use Rattle.omos_wire.specs.Message.{HasFrame};
 
 /// How many images the cache holds.
 const CACHE: u32 = 64;

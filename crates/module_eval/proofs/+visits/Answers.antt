@@ -6,15 +6,15 @@ use Rattle.omos_model.specs.Term.{Apply}
 use Rattle.omos_model.specs.Tree.{tree_of}
 use Rattle.omos_model.specs.declared.refusal.Refusal.TheVariants.{NoEntry}
 use Rattle.module_share.specs.Trails.{and_on, begin_on, nested_on, one_on, visit_on}
-use Rattle.module_eval.specs.Counted.{visit_of}
+use Rattle.module_eval.specs.inside.Counted.{visit_of}
 use Rattle.module_eval.specs.Costs.{operators, owed}
-use Rattle.module_eval.specs.Known.{AreKnown}
-use Rattle.module_eval.specs.Operators.{op_of}
-use Rattle.module_eval.specs.Reaches.{PassesNoLimit, added, tally_of_visit}
+use Rattle.module_eval.specs.inside.Known.{AreKnown}
+use Rattle.module_eval.specs.inside.Operators.{op_of}
+use Rattle.module_eval.specs.inside.Reaches.{PassesNoLimit, added, tally_of_visit}
 use Rattle.module_eval.specs.declared.reach.Tally.{Tally}
 use Rattle.omos_model.specs.Visit.{Visit}
-use Rattle.module_eval.specs.Pendings.{Comes, EndsAt, EndsIn, others_in}
-use Rattle.module_eval.specs.Walked.{Walked, path_in, term_with, tree_in}
+use Rattle.module_eval.specs.inside.Pendings.{Comes, EndsAt, EndsIn, others_in}
+use Rattle.module_eval.specs.inside.Walked.{Walked, path_in, term_with, tree_in}
 use Rattle.module_eval.proofs.Again.{run_of}
 use Rattle.module_eval.proofs.Charged.{on_ok, owed_more}
 use Rattle.module_eval.proofs.Further.{back_from, back_object, back_on, count_on, max_low}

@@ -5,11 +5,11 @@ use Rattle.omos_model.specs.Term.{Term}
 use Rattle.omos_model.specs.Tree.{tree_of}
 use Rattle.module_share.specs.Trails.{Trail}
 use Rattle.module_eval.specs.Costs.{operators, owed}
-use Rattle.module_eval.specs.Counted.{visit_of}
-use Rattle.module_eval.specs.Meant.{Means}
-use Rattle.module_eval.specs.Pendings.{Comes, EndsIn}
-use Rattle.module_eval.specs.Walked.{tree_in}
-use Rattle.module_eval.specs.Walks.{Charges, ComesBack, CountOn, MayGoOn, space_of}
+use Rattle.module_eval.specs.inside.Counted.{visit_of}
+use Rattle.module_eval.specs.inside.Meant.{Means}
+use Rattle.module_eval.specs.inside.Pendings.{Comes, EndsIn}
+use Rattle.module_eval.specs.inside.Walked.{tree_in}
+use Rattle.module_eval.specs.inside.Walks.{Charges, ComesBack, CountOn, MayGoOn, space_of}
 use Rattle.module_eval.proofs.+visits.Given as goal
 
 -- a step down opens a blueprint, of which there are at most 32

@@ -4,7 +4,7 @@ use Rattle.module_share.specs.Trails.{leaf_on}
 use Rattle.omos_model.specs.FragmentParts.{FragmentParts}
 use Rattle.omos_model.specs.Term.{Leaf}
 use Rattle.omos_model.specs.declared.entry.Entry.TheVariants.{Object}
-use Rattle.module_eval.specs.Counted.{visit_of}
+use Rattle.module_eval.specs.inside.Counted.{visit_of}
 use Rattle.module_eval.proofs.object.visit_object.Goals as goal
 
 pub returns-clause-walk : goal.returns-clause-walk

@@ -20,5 +20,6 @@ returns-in-Ok-receive_bye-clause-heard g c =
 pub returns-in-Err-receive_bye-clause-heard : goal.returns-in-Err-receive_bye-clause-heard
 returns-in-Err-receive_bye-clause-heard g c =
     let one = c.in-Ok.ensures.received in
-    then_unheard c.in-Err-receive_bye.unheard c.args.command (answer_in c.in-Ok.reply) _ _ _ one.0 one.1 one.2
+    then_unheard c.in-Err-receive_bye.unheard c.args.command (answer_in c.in-Ok.reply) _ _ _ one.0
+    one.1 one.2
     (sym c.if-not-may_have.ensures) c.in-Err-receive_bye.ensures.received

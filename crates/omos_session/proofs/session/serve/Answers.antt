@@ -1,6 +1,8 @@
 use Rattle.std.proofs.Common.{refl, ◌∙◌, arith}
 use Rattle.omos_session.proofs.Going.{can_after, can_less}
-use Rattle.omos_session.proofs.Sessions.{going_start, going_fed, going_row, session_ended, session_cut_off, session_too_many, session_unread, session_no_memory, one_fewer, more_waiting}
+use Rattle.omos_session.proofs.Sessions.{going_start, going_fed, going_row, session_ended}
+use Rattle.omos_session.proofs.Sessions.{session_cut_off, session_too_many, session_unread}
+use Rattle.omos_session.proofs.Sessions.{session_no_memory, one_fewer, more_waiting}
 use Rattle.omos_session.proofs.FewMisses.{misses_few}
 use Rattle.omos_session.proofs.Gates.{gate_left}
 use Rattle.omos_session.proofs.session.serve.Goals as goal
@@ -9,7 +11,12 @@ pub serve_frame-requires-clause-gate : goal.serve_frame-requires-clause-gate
 serve_frame-requires-clause-gate g c =
     let going = c.frames.invariant.going in
     gate_left _ _ _ c.requires.gate going.went.crossed
-    (omega (arith, misses_few _ _ going.rows going.rows_told, going.counted, c.frames.invariant.few))
+    (omega (
+      arith,
+      misses_few _ _ going.rows going.rows_told,
+      going.counted,
+      c.frames.invariant.few,
+    ))
 
 pub frames-init : goal.frames-init
 frames-init g c =
@@ -28,8 +35,10 @@ frames-preserved-in-Next g c =
     let served = c.in-Next.ensures.served in
     let serves = served.0.serves in
     record {
-      going = going_row _ _ _ _ _ _ _ _ _ c.frames.count c.frames.decoder _ _ c.frames.invariant.going took served.0 served.1;
-      can = can_after _ _ _ serves.turns _ _ _ serves.went (omega (arith, serves.few)) c.frames.invariant.can;
+      going = going_row _ _ _ _ _ _ _ _ _ c.frames.count c.frames.decoder _ _
+          c.frames.invariant.going took served.0 served.1;
+      can = can_after _ _ _ serves.turns _ _ _ serves.went (omega (arith, serves.few))
+          c.frames.invariant.can;
       lenders = c.serve_frame.ensures.lenders ∙ c.frames.invariant.lenders;
       source = c.frames.invariant.source;
       sink = omega arith;
@@ -43,18 +52,21 @@ pub returns-in-Ended-clause-session : goal.returns-in-Ended-clause-session
 returns-in-Ended-clause-session g c =
     let took = rw c.in-Request.is at c.next.follows.holds-at-none in
     let served = c.in-Ended.ensures.served in
-    session_ended _ _ _ _ _ _ _ _ _ c.frames.count c.frames.decoder _ _ c.frames.invariant.going took served.0 served.1 (omega arith)
+    session_ended _ _ _ _ _ _ _ _ _ c.frames.count c.frames.decoder _ _ c.frames.invariant.going
+    took served.0 served.1 (omega arith)
 
 pub returns-in-Failed-clause-session : goal.returns-in-Failed-clause-session
 returns-in-Failed-clause-session g c =
     let took = rw c.in-Request.is at c.next.follows.holds-at-none in
     let served = c.in-Failed.ensures.served in
-    session_cut_off _ _ _ _ _ _ _ _ _ c.frames.count c.frames.decoder _ _ c.frames.invariant.going took served.0 served.1 served.2 (omega arith)
+    session_cut_off _ _ _ _ _ _ _ _ _ c.frames.count c.frames.decoder _ _ c.frames.invariant.going
+    took served.0 served.1 served.2 (omega arith)
 
 pub returns-then-count-eq-FRAMES-clause-session : goal.returns-then-count-eq-FRAMES-clause-session
 returns-then-count-eq-FRAMES-clause-session g c =
     let took = rw c.in-Request.is at c.next.follows.holds-at-none in
-    session_too_many _ _ _ _ _ _ _ c.frames.count c.frames.decoder _ _ c.frames.invariant.going took c.if-count-eq-FRAMES.true
+    session_too_many _ _ _ _ _ _ _ c.frames.count c.frames.decoder _ _ c.frames.invariant.going took
+    c.if-count-eq-FRAMES.true
 
 pub frames-preserved : goal.frames-preserved
 frames-preserved g c =
@@ -78,8 +90,10 @@ frames-smaller g c =
 pub returns-in-Failed-read_piece-clause-session : goal.returns-in-Failed-read_piece-clause-session
 returns-in-Failed-read_piece-clause-session g c =
     let more = rw c.in-More.is at c.next.follows.holds-at-none in
-    session_unread _ _ _ _ _ _ _ _ _ c.frames.decoder c.frames.invariant.going more.1 c.in-Failed-read_piece.ensures.read.0 c.frames.invariant.few
+    session_unread _ _ _ _ _ _ _ _ _ c.frames.decoder c.frames.invariant.going more.1
+    c.in-Failed-read_piece.ensures.read.0 c.frames.invariant.few
 
 pub returns-in-NoMemory-clause-session : goal.returns-in-NoMemory-clause-session
 returns-in-NoMemory-clause-session g c =
-    session_no_memory _ _ _ _ _ _ _ _ _ c.frames.decoder _ c.frames.invariant.going c.in-NoMemory.ensures.read.1 c.frames.invariant.few
+    session_no_memory _ _ _ _ _ _ _ _ _ c.frames.decoder _ c.frames.invariant.going
+    c.in-NoMemory.ensures.read.1 c.frames.invariant.few

@@ -7,4 +7,5 @@ use Rattle.omos_wire.specs.Answer.{wire_span}
 pub returns : goal.returns
 returns c =
     let ps = c.args.placements.now in
-    readable_places (map wire_span ps) (omega (arith, c.requires, length-map ps wire_span)) c.spans_fit.ensures
+    readable_places (map wire_span ps) (omega (arith, c.requires, length-map ps wire_span))
+    c.spans_fit.ensures

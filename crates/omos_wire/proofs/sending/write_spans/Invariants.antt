@@ -6,7 +6,8 @@ use Rattle.omos_wire.proofs.sending.write_spans.Given as goal
 abbrev pub invariant-placements : goal.invariant-placements
 invariant-placements g l =
     (l.done ≤ length l.placements)
-    × Appends (g.K.Sink.held l.initial.sink) (g.K.Sink.held l.sink) (bytes_of (take l.done l.placements))
+    × Appends (g.K.Sink.held l.initial.sink) (g.K.Sink.held l.sink)
+    (bytes_of (take l.done l.placements))
     × (g.K.Sink.faults l.initial.sink ≤ g.K.Sink.faults l.sink)
     × (g.K.Sink.faults l.initial.sink < 2 ^ 64 → g.K.Sink.faults l.sink < 2 ^ 64)
 

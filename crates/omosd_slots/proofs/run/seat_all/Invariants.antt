@@ -12,12 +12,16 @@ invariant-slots g l =
     let count : ℕ = length l.fn.slots.items in
     let k : ℕ = length l.seated.items in record {
       all :
-          l.seated.items ++ seated_from l.hub l.fn.limits.cache l.fn.limits.steps count l.draws (k + 1) (slot_states g.D.Door.state g.G.Gate.crossings l.slots.items)
-          ≡ seated_from l.hub l.fn.limits.cache l.fn.limits.steps count l.draws 1 (slot_states g.D.Door.state g.G.Gate.crossings l.fn.slots.items);
+          l.seated.items ++ seated_from l.hub l.fn.limits.cache l.fn.limits.steps count l.draws
+          (k + 1) (slot_states g.D.Door.state g.G.Gate.crossings l.slots.items)
+          ≡ seated_from l.hub l.fn.limits.cache l.fn.limits.steps count l.draws 1
+          (slot_states g.D.Door.state g.G.Gate.crossings l.fn.slots.items);
       count_is : k + length l.slots.items ≡ count;
       passes_are : length l.passes.items ≡ length l.slots.items;
       seats_are : length l.seats.items ≡ length l.slots.items;
-      new_passes : (j : ℕ) (d : Knowledge Step) → j < length l.passes.items → get_or l.passes.items j d ≡ new_pass l.hub l.fn.limits.cache l.fn.limits.steps count (k + j + 1);
+      new_passes : (j : ℕ) (d : Knowledge Step) → j < length l.passes.items
+          → get_or l.passes.items j d ≡ new_pass l.hub l.fn.limits.cache l.fn.limits.steps count
+          (k + j + 1);
       new_seats : All (IsNew l.draws count) l.seats.items;
       room : count ≤ vec_capacity l.seated;
       slots_room : vec_capacity l.slots ≡ vec_capacity l.fn.slots;

@@ -7,5 +7,6 @@ use Rattle.workload_calls.proofs.frames.push_links.Given as goal
 
 abbrev pub invariant-links : goal.invariant-links
 invariant-links l =
-    AddsFrames l.initial.stream l.stream (flat_map (λ i. twice (program_path i)) (numbers_from 1 (l.i - 1)))
+    AddsFrames l.initial.stream l.stream
+    (flat_map (λ i. twice (program_path i)) (numbers_from 1 (l.i - 1)))
     × (1 ≤ l.i) × (l.i - 1 ≤ l.n - 1)

@@ -12,4 +12,5 @@ objects-preserved c =
 
 pub returns : goal.returns
 returns c =
-    adds_to (put_object c.args.n) c.args.stream.now c.objects.stream c.objects.i c.args.n (omega arith) c.objects.invariant
+    adds_to (put_object c.args.n) c.args.stream.now c.objects.stream c.objects.i c.args.n
+    (omega arith) c.objects.invariant

@@ -6,7 +6,9 @@ use Rattle.workload_calls.proofs.serving.serve_workload.Goals as goal
 pub returns : goal.returns
 returns c =
     let talk = c.in_ok-sink.ensures in
-    let fit = talk_fits c.args.n c.talk.new.store c.in_ok-sink.sink.held talk (omega (arith, c.record_len.ensures.len)) in
+    let fit =
+    talk_fits c.args.n c.talk.new.store c.in_ok-sink.sink.held talk
+    (omega (arith, c.record_len.ensures.len)) in
     record {
       written = c.in_ok-sink.sink.held;
       talk = talk;

@@ -35,7 +35,8 @@ invariant_of-self c =
       base,
     ) (
       after_unstored _ _ _ _ _ _ _ c.self.invariant.0 ticket may
-          (storing_none c.self.inside.cache.capacity c.self.inside.cache.items c.args.ticket.now.seat
+          (storing_none c.self.inside.cache.capacity c.self.inside.cache.items
+          c.args.ticket.now.seat
           c.args.ticket.now.number c.args.ticket.now.path c.args.ticket.now.version new),
       c.self.invariant.1,
       c.self.invariant.2,

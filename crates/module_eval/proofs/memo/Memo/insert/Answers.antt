@@ -1,6 +1,6 @@
 use Rattle.std.proofs.Common.{◌≡◌, true, sym, subst}
 use Rattle.module_eval.specs.Costs.{is_built}
-use Rattle.module_eval.specs.Kept.{AreKept}
+use Rattle.module_eval.specs.inside.Kept.{AreKept}
 use Rattle.module_eval.proofs.Again.{kept_more}
 use Rattle.module_eval.proofs.Built.{built_only, built_still}
 use Rattle.module_eval.proofs.memo.Memo.insert.Goals as goal

@@ -9,7 +9,7 @@ use Rattle.refusal_lines.specs.Codes.{IsField}
 use Rattle.omos_wire.specs.Fielded.{field_bytes}
 use Rattle.refusal_lines.specs.Codes.{Coded, Field}
 use Rattle.omos_wire.specs.Fielded.{field}
-use Rattle.omos_wire.specs.Reading.{text_size}
+use Rattle.omos_wire.specs.inside.Reading.{text_size}
 
 -- a number of this width, and the rest
 pub record TookNumber (width : ℕ) (bytes : List ℕ) (n : ℕ) (rest : List ℕ) : Type 0 where

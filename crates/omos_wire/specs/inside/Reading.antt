@@ -26,7 +26,8 @@ abbrev pub text_size : List ℕ → ℕ
 text_size bytes = number_at 2 0 bytes
 
 -- a text of this kind stands behind its length, and what follows it is so
-pub record IsTextField (Is : List ℕ → Type 0) (Rest : List ℕ → Type 0) (bytes : List ℕ) : Type 0 where
+pub record IsTextField (Is : List ℕ → Type 0) (Rest : List ℕ → Type 0)
+    (bytes : List ℕ) : Type 0 where
   pub sized : 2 ≤ length bytes
   pub there : 2 + text_size bytes ≤ length bytes
   pub text : Is (slice_range bytes 2 (2 + text_size bytes))

@@ -163,7 +163,8 @@ IsPieceRead piece.Fed told told' old new =
     × (new ≡ record { place = old.place; waiting = old.waiting ++ bytes })
 IsPieceRead piece.End told told' old new = Gives told told' [] × (new ≡ old) × IsAtEnd told'
 IsPieceRead piece.Failed told told' old new = Gives told told' [] × (new ≡ old)
-IsPieceRead piece.NoMemory told told' old new = (bytes : List ℕ) × Gives told told' bytes × (new ≡ old)
+IsPieceRead piece.NoMemory told told' old new = (bytes : List ℕ) × Gives told told' bytes
+    × (new ≡ old)
 
 -- ---- the loop
 

@@ -10,12 +10,12 @@ use Rattle.omos_model.specs.declared.refusal.Refusal.{Refusal}
 use Rattle.omos_model.specs.declared.visit.Visit.{Visit}
 use Rattle.module_share.specs.Trails.{Trail}
 use Rattle.module_eval.specs.Costs.{StayBuilt, read_of}
-use Rattle.module_eval.specs.Counted.{AreCounted, visit_of}
-use Rattle.module_eval.specs.Found.{AreFound}
-use Rattle.module_eval.specs.Kept.{AreKept}
-use Rattle.module_eval.specs.Known.{AreKnown, Deepens}
-use Rattle.module_eval.specs.Pendings.{EndsIn}
-use Rattle.module_eval.specs.Walked.{IsLimit, Walked, path_in}
+use Rattle.module_eval.specs.inside.Counted.{AreCounted, visit_of}
+use Rattle.module_eval.specs.inside.Found.{AreFound}
+use Rattle.module_eval.specs.inside.Kept.{AreKept}
+use Rattle.module_eval.specs.inside.Known.{AreKnown, Deepens}
+use Rattle.module_eval.specs.inside.Pendings.{EndsIn}
+use Rattle.module_eval.specs.inside.Walked.{IsLimit, Walked, path_in}
 use Rattle.module_eval.specs.declared.counts.Counts.{Counts}
 use Rattle.module_eval.specs.declared.part.Part.{Part}
 use Rattle.module_eval.specs.declared.pending.Pending.{Pending}

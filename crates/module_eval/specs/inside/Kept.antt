@@ -13,7 +13,7 @@ use Rattle.module_share.specs.Places.{tree_at}
 use Rattle.module_table.specs.Stands.{StandsFor}
 use Rattle.module_table.specs.TableParts.{TableParts}
 use Rattle.module_eval.specs.Costs.{is_built}
-use Rattle.module_eval.specs.Reaches.{IsReach}
+use Rattle.module_eval.specs.inside.Reaches.{IsReach}
 use Rattle.module_eval.specs.declared.memo.Found.{Found}
 use Rattle.module_eval.specs.declared.memo.Found.TheVariants as found
 use Rattle.module_eval.specs.declared.memo.Kept.{Kept}

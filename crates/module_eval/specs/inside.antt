@@ -1,0 +1,11 @@
+pub mod Counted
+pub mod Found
+pub mod Operators
+pub mod LeafParts
+pub mod Meant
+pub mod Reaches
+pub mod Kept
+pub mod Walked
+pub mod Pendings
+pub mod Known
+pub mod Walks
