@@ -25,8 +25,7 @@ use Rattle.link_model.specs.ImageBytes.{slot_address, slot_byte}
 use Rattle.link_model.specs.Layout.{group_begin, program_pieces, slots_begin, target_at}
 use Rattle.link_model.specs.Plan.{Plan, first_in}
 use Rattle.link_model.specs.Program.{Parts, Reference, object_of, references}
-use Rattle.image_write.specs.declared.slots.SlotTable.{SlotTable}
-use Rattle.image_write.specs.Addresses.{address_in, slot_in, slots_byte}
+use Rattle.image_write.specs.Addresses.{address_in, slots_byte}
 use Rattle.image_write.specs.Fields.{field_number, last_byte, overflow_in}
 use Rattle.image_write.specs.Groups.{bytes_in_file}
 use Rattle.image_write.specs.Painted.{Painted}
@@ -44,30 +43,30 @@ pub address-same : (plan : Plan) (base : ℕ) (t : Target)
 address-same plan base (Inside leaf piece offset) = refl
 address-same plan base (Fixed value) = refl
 
-abbrev pub SlotsStand : Plan → ℕ → SlotTable → Type 0
-SlotsStand plan base table = (t : Target) → slot_in table t ≡ slot_address plan base t
+abbrev pub SlotsStand : Plan → ℕ → (Target → ℕ) → Type 0
+SlotsStand plan base slot = (t : Target) → slot t ≡ slot_address plan base t
 
-field-same : (plan : Plan) (base : ℕ) (table : SlotTable) → SlotsStand plan base table
+field-same : (plan : Plan) (base : ℕ) (slot : Target → ℕ) → SlotsStand plan base slot
     → (r : Reference)
-    → field_number plan.places table base r ≡ field_of plan base r
-field-same plan base table h r =
+    → field_number plan.places slot base r ≡ field_of plan base r
+field-same plan base slot h r =
     λ i. field_value r.fixup.kind (address-same plan base (target_at r.landing) i) r.fixup.addend
     (base + field_place plan r) (h (target_at r.landing) i)
 
-pub overflow-same : (plan : Plan) (base : ℕ) (table : SlotTable) → SlotsStand plan base table
+pub overflow-same : (plan : Plan) (base : ℕ) (slot : Target → ℕ) → SlotsStand plan base slot
     → (rs : List Reference)
-    → first_in (overflow_in plan.places table base) rs ≡ first_in (overflow_at plan base) rs
-overflow-same plan base table h rs =
-    λ i. first_in (λ r. if is_some (field-same plan base table h r i) then None
+    → first_in (overflow_in plan.places slot base) rs ≡ first_in (overflow_at plan base) rs
+overflow-same plan base slot h rs =
+    λ i. first_in (λ r. if is_some (field-same plan base slot h r i) then None
     else Some (Overflow r.leaf r.number)) rs
 
-last-same : (plan : Plan) (base : ℕ) (table : SlotTable) → SlotsStand plan base table → (x : ℕ)
-    → last_byte plan.places table base (references plan.parts) x ≡ field_byte plan base x
-last-same plan base table h x =
+last-same : (plan : Plan) (base : ℕ) (slot : Target → ℕ) → SlotsStand plan base slot → (x : ℕ)
+    → last_byte plan.places slot base (references plan.parts) x ≡ field_byte plan base x
+last-same plan base slot h x =
     λ i.
     option_map
     (λ r. slice_index
-    (little_bytes (width r.fixup.kind) (unwrap_or (field-same plan base table h r i) 0))
+    (little_bytes (width r.fixup.kind) (unwrap_or (field-same plan base slot h r i) 0))
     (x - field_place plan r))
     (find (is_field_at plan x) (reverse (references plan.parts)))
 
@@ -171,33 +170,33 @@ get_or-numbers start (suc n) zero d h = omega arith
 get_or-numbers start (suc n) (suc k) d h =
     let e = get_or-numbers (start + 1) n k d (omega arith) in omega (arith, e)
 
-byte-same : (plan : Plan) (base : ℕ) (table : SlotTable) (leaves : List Entry)
-    → SlotsStand plan base table
+byte-same : (plan : Plan) (base : ℕ) (slot : Target → ℕ) (leaves : List Entry)
+    → SlotsStand plan base slot
     → program_pieces plan.parts ≡ all_pieces leaves → LeavesStand plan.parts plan.places leaves
     → All IsLawful leaves
     → (x : ℕ) → x < bytes_in_file plan.parts
-    → unwrap_or (option_or (last_byte plan.places table base (references plan.parts) x)
+    → unwrap_or (option_or (last_byte plan.places slot base (references plan.parts) x)
     (option_or
     (slots_byte plan.places base plan.slots (slots_begin plan.parts) (length plan.slots) x)
     (first_byte (placed_in plan.places leaves) x))) 0
     ≡ byte_of plan base x
-byte-same plan base table leaves slots same h lawful x lt =
+byte-same plan base slot leaves slots same h lawful x lt =
     λ i.
     unwrap_or
-    (option_or (last-same plan base table slots x i)
+    (option_or (last-same plan base slot slots x i)
     (option_or (slots-same plan base x i) (first-same plan leaves x lt same h lawful i))) 0
 
-pub body-bytes : (plan : Plan) (base : ℕ) (table : SlotTable) (leaves : List Entry) (new : List ℕ)
-    → SlotsStand plan base table
+pub body-bytes : (plan : Plan) (base : ℕ) (slot : Target → ℕ) (leaves : List Entry) (new : List ℕ)
+    → SlotsStand plan base slot
     → program_pieces plan.parts ≡ all_pieces leaves → LeavesStand plan.parts plan.places leaves
     → All IsLawful leaves
     → Painted new (λ x.
-    option_or (last_byte plan.places table base (references plan.parts) x)
+    option_or (last_byte plan.places slot base (references plan.parts) x)
     (option_or
     (slots_byte plan.places base plan.slots (slots_begin plan.parts) (length plan.slots) x)
     (first_byte (placed_in plan.places leaves) x))) (replicate (bytes_in_file plan.parts) 0)
     → new ≡ map (byte_of plan base) (numbers_from 0 (bytes_in_file plan.parts))
-body-bytes plan base table leaves new slots same h lawful painted =
+body-bytes plan base slot leaves new slots same h lawful painted =
     let n = bytes_in_file plan.parts in
     let zeros : length (replicate n 0) ≡ n = length-replicate n 0 in
     let numbers = length-numbers 0 n in
@@ -210,11 +209,11 @@ body-bytes plan base table leaves new slots same h lawful painted =
     get_or_default new k d 0 lt
     ∙ painted.each k (subst (λ (m : ℕ). k < m) (sym zeros) within)
     ∙ (λ i.
-    unwrap_or (option_or (last_byte plan.places table base (references plan.parts) k)
+    unwrap_or (option_or (last_byte plan.places slot base (references plan.parts) k)
     (option_or
     (slots_byte plan.places base plan.slots (slots_begin plan.parts) (length plan.slots) k)
     (first_byte (placed_in plan.places leaves) k))) (zero_is i))
-    ∙ byte-same plan base table leaves slots same h lawful k within
+    ∙ byte-same plan base slot leaves slots same h lawful k within
     ∙ sym (get_or-map (byte_of plan base) (numbers_from 0 n) k 0 d
     (subst (λ (m : ℕ). k < m) (sym numbers) within)
     ∙ ap (byte_of plan base) (get_or-numbers 0 n k 0 within ∙ plus k)))

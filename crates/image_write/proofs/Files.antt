@@ -1,5 +1,5 @@
 -- The file that is written is the image.
-use Rattle.std.proofs.Common.{◌≡◌, ℕ, ◌+◌, ◌-◌, ◌*◌, List, ◌++◌, length, take, drop, map, replicate}
+use Rattle.std.proofs.Common.{◌≡◌, ℕ, ◌+◌, ◌-◌, List, ◌++◌, length, take, drop, map, replicate}
 use Rattle.std.proofs.Common.{Some, None, Ok, Err, unwrap_or, sym, ap, subst, ◌∙◌, arith}
 use Rattle.std.specs.Option.{option_map}
 use Rattle.std.proofs.lemmas.List.{drop_at, length-append, length-replicate, take-append-drop}
@@ -10,13 +10,11 @@ use Rattle.omos_model.specs.declared.fragment.Group.TheVariants.{Zeros}
 use Rattle.omos_model.specs.declared.refusal.Refusal.{Refusal}
 use Rattle.link_model.specs.ImageBytes.{byte_of, entry_address, file_bytes, header_page}
 use Rattle.link_model.specs.ImageBytes.{image_bytes, overflow, unless_overflow}
-use Rattle.link_model.specs.Layout.{slot_number}
 use Rattle.link_model.specs.Module.{Module, Placing}
 use Rattle.link_model.specs.Plan.{Plan}
 use Rattle.link_model.specs.Program.{references}
 use Rattle.link_model.specs.declared.groups.Groups.{Groups}
-use Rattle.image_write.specs.declared.slots.SlotTable.{SlotTable}
-use Rattle.image_write.specs.Addresses.{IsTable}
+use Rattle.image_write.specs.Addresses.{slot_in}
 use Rattle.image_write.specs.Filled.{IsComplete, filled_byte, first_overflow}
 use Rattle.image_write.specs.Groups.{bytes_in_file}
 use Rattle.image_write.specs.inside.Headers.{page_in}
@@ -51,47 +49,47 @@ rest-zeros : (items page : List ℕ) (head n : ℕ) → items ≡ page ++ zeros 
 unfolding zeros
 rest-zeros items page head n e h = ap (drop head) e ∙ drop_at page (replicate n 0) head (sym h)
 
-slots-stand : (x : Groups) (m : Module) (l : Placing) (table : SlotTable) (base : ℕ) → IsSound x m l
-    → IsTable table l.slots (base + x.slots) → SlotsStand (plan_with m l) base table
-slots-stand x m l table base sound h t =
-    h.each t ∙ (λ i. base + sound.groups.slots i + 8 * slot_number l.slots t)
+slots-stand : (x : Groups) (m : Module) (l : Placing) (base : ℕ) → IsSound x m l
+    → SlotsStand (plan_with m l) base (slot_in l base)
+slots-stand x m l base sound t =
+    omega (arith, sound.groups.slots, ap (λ (y : Groups). y.slots) sound.own)
 
 entry-same : (plan : Plan) (base : ℕ)
     → entry_in plan.places base plan.entry ≡ entry_address plan base
 entry-same plan base = λ i. unwrap_or (option_map (λ t. address-same plan base t i) plan.entry) 0
 
-pub written-ok : (x : Groups) (m : Module) (l : Placing) (table : SlotTable) (base entry head : ℕ)
+pub written-ok : (x : Groups) (m : Module) (l : Placing) (base entry head : ℕ)
     (items new page : List ℕ)
-    → IsSound x m l → IsTable table l.slots (base + x.slots)
+    → IsSound x m l
     → entry ≡ entry_in l.places base l.entry → page ≡ page_in x base entry
     → items ≡ page ++ zeros x.begins.zeros → head ≡ length page → take head new ≡ take head items
-    → IsComplete (plan_with m l) base table m.leaves (drop head new) (drop head items)
+    → IsComplete (plan_with m l) base (slot_in l base) m.leaves (drop head new) (drop head items)
     → image_bytes (plan_with m l) base ≡ Ok new
 unfolding zeros
-written-ok x m l table base entry head items new page sound h en pn bn hn kept filled =
+written-ok x m l base entry head items new page sound en pn bn hn kept filled =
     let plan = plan_with m l in
-    let slots = slots-stand x m l table base sound h in
+    let slot = slot_in l base in
+    let slots = slots-stand x m l base sound in
     let old : drop head items ≡ replicate (bytes_in_file plan.parts) 0 =
     rest-zeros items page head x.begins.zeros bn hn
     ∙ ap (λ n. replicate n 0) (sound.groups.begins Zeros) in
     let body : drop head new ≡ map (byte_of plan base) (numbers_from 0 (bytes_in_file plan.parts)) =
-    body-bytes plan base table m.leaves (drop head new) slots sound.same sound.stand sound.lawful
-    (subst (λ (xs : List ℕ). Painted (drop head new) (filled_byte plan base table m.leaves) xs) old
+    body-bytes plan base slot m.leaves (drop head new) slots sound.same sound.stand sound.lawful
+    (subst (λ (xs : List ℕ). Painted (drop head new) (filled_byte plan base slot m.leaves) xs) old
     filled.painted) in
     let front : take head new ≡ header_page plan base =
     kept ∙ ap (take head) bn ∙ take_at page (replicate x.begins.zeros 0) head (sym hn) ∙ pn
     ∙ page-same x plan base entry sound.groups (en ∙ entry-same plan base) in
-    image-ok plan base new (sym (overflow-same plan base table slots (references plan.parts))
+    image-ok plan base new (sym (overflow-same plan base slot slots (references plan.parts))
     ∙ filled.fit)
     (sym (take-append-drop head new) ∙ (λ i. front i ++ body i))
 
-pub written-err : (x : Groups) (m : Module) (l : Placing) (table : SlotTable) (base : ℕ)
+pub written-err : (x : Groups) (m : Module) (l : Placing) (base : ℕ)
     (y : Refusal)
-    → IsSound x m l → IsTable table l.slots (base + x.slots)
-    → first_overflow (plan_with m l) base table m.leaves ≡ Some y
+    → IsSound x m l → first_overflow (plan_with m l) base (slot_in l base) m.leaves ≡ Some y
     → image_bytes (plan_with m l) base ≡ Err y
-written-err x m l table base y sound h some =
+written-err x m l base y sound some =
     let plan = plan_with m l in
     image-err plan base y
-    (sym (overflow-same plan base table (slots-stand x m l table base sound h)
+    (sym (overflow-same plan base (slot_in l base) (slots-stand x m l base sound)
     (references plan.parts)) ∙ some)

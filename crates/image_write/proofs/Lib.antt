@@ -10,3 +10,4 @@ pub mod Inside
 pub mod Bytes
 pub mod Soundness
 pub mod Files
+pub mod Answered

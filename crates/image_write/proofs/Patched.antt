@@ -18,6 +18,7 @@ use Rattle.omos_model.specs.FragmentParts.{width}
 use Rattle.omos_model.specs.declared.entry.Entry.{Entry}
 use Rattle.omos_model.specs.declared.fragment.Fixup.{Fixup}
 use Rattle.omos_model.specs.declared.mark.Landing.{Landing}
+use Rattle.omos_model.specs.declared.mark.Target.{Target}
 use Rattle.omos_model.specs.declared.refusal.Refusal.{Refusal}
 use Rattle.omos_model.specs.declared.refusal.Refusal.TheVariants.{Overflow}
 use Rattle.link_model.specs.Field.{field_value}
@@ -27,8 +28,7 @@ use Rattle.link_model.specs.Module.{part_with}
 use Rattle.link_model.specs.Plan.{first_in}
 use Rattle.link_model.specs.Program.{Part, Reference, reference_of, references_in}
 use Rattle.link_layout.proofs.Parts.{first_in-append}
-use Rattle.image_write.specs.declared.slots.SlotTable.{SlotTable}
-use Rattle.image_write.specs.Addresses.{address_in, slot_in}
+use Rattle.image_write.specs.Addresses.{address_in}
 use Rattle.image_write.specs.Fields.{IsPatched, byte_in, field_number, field_place_in, last_byte}
 use Rattle.image_write.specs.Fields.{overflow_in, references_of}
 use Rattle.image_write.specs.Painted.{Painted, run_at}
@@ -60,16 +60,16 @@ chosen : {X Y : Type 0} (b : Bool) (f : X → Y) (x : X) → option_map f (if b 
 chosen true f x = refl
 chosen false f x = refl
 
-module _ (places : List (List ℕ)) (table : SlotTable) (base : ℕ) where
+module _ (places : List (List ℕ)) (slot : Target → ℕ) (base : ℕ) where
   pub patched-one : (r : Reference) (field : ℕ) (new old : List ℕ)
-      → field_number places table base r ≡ Some field
+      → field_number places slot base r ≡ Some field
       → field_place_in places r + width r.fixup.kind ≤ length old
       → new ≡ with_number (width r.fixup.kind) (field_place_in places r) field old
-      → IsPatched places table base (r ∷ []) new old
+      → IsPatched places slot base (r ∷ []) new old
   patched-one r field new old e fits en =
       record {
-        fit = no_overflow (field_number places table base r) (Overflow r.leaf r.number) field e;
-        painted = painted-as (last_byte places table base (r ∷ [])) run (λ x _. same x);
+        fit = no_overflow (field_number places slot base r) (Overflow r.leaf r.number) field e;
+        painted = painted-as (last_byte places slot base (r ∷ [])) run (λ x _. same x);
       } where
         w : ℕ
         w = width r.fixup.kind
@@ -89,44 +89,44 @@ module _ (places : List (List ℕ)) (table : SlotTable) (base : ℕ) where
             ((λ i. take at old ++ bytes ++ drop (at + n i) old) ∙ sym en)
             (painted-run old at bytes (omega (arith, n)))
 
-        same : (x : ℕ) → run_at at bytes x ≡ last_byte places table base (r ∷ []) x
+        same : (x : ℕ) → run_at at bytes x ≡ last_byte places slot base (r ∷ []) x
         same x =
             (λ i. if covers at (n i) x then Some (slice_index bytes (x - at)) else None)
             ∙ (λ i. if covers at w x
             then Some (slice_index (little_bytes w (unwrap_or (sym e i) 0)) (x - at)) else None)
-            ∙ sym (chosen (covers at w x) (byte_in places table base x) r)
+            ∙ sym (chosen (covers at w x) (byte_in places slot base x) r)
 
   -- the same, from the field's place and the number that it gets there
   pub patched-at : (r : Reference) (place field : ℕ) (new old : List ℕ)
       → place ≡ field_place_in places r
       → Some field ≡ field_value r.fixup.kind (address_in places base (target_at r.landing))
-      r.fixup.addend (base + place) (slot_in table (target_at r.landing))
+      r.fixup.addend (base + place) (slot (target_at r.landing))
       → field_place_in places r + width r.fixup.kind ≤ length old
       → new ≡ with_number (width r.fixup.kind) place field old
-      → IsPatched places table base (r ∷ []) new old
+      → IsPatched places slot base (r ∷ []) new old
   patched-at r place field new old at value fits en =
       let target = target_at r.landing in
       patched-one r field new old
       ((λ i. field_value r.fixup.kind (address_in places base target) r.fixup.addend
-      (base + sym at i) (slot_in table target)) ∙ sym value)
+      (base + sym at i) (slot target)) ∙ sym value)
       fits (en ∙ (λ i. with_number (width r.fixup.kind) (at i) field old))
 
   pub patched-append : (rs ts : List Reference) (new mid old : List ℕ)
-      → IsPatched places table base rs mid old
-      → IsPatched places table base ts new mid → IsPatched places table base (rs ++ ts) new old
+      → IsPatched places slot base rs mid old
+      → IsPatched places slot base ts new mid → IsPatched places slot base (rs ++ ts) new old
   patched-append rs ts new mid old before later =
       record {
-        fit = first_in-append (overflow_in places table base) rs ts
+        fit = first_in-append (overflow_in places slot base) rs ts
             ∙ (λ i. option_or (before.fit i) (later.fit i));
         painted =
-            painted-as (last_byte places table base (rs ++ ts))
+            painted-as (last_byte places slot base (rs ++ ts))
             (painted-then later.painted before.painted)
             (λ x _.
-            either (byte_in places table base x) (find (is_at x) (reverse ts))
+            either (byte_in places slot base x) (find (is_at x) (reverse ts))
             (find (is_at x) (reverse rs))
-            ∙ ap (option_map (byte_in places table base x))
+            ∙ ap (option_map (byte_in places slot base x))
             (sym (find-append (is_at x) (reverse ts) (reverse rs)))
-            ∙ ap (λ xs. option_map (byte_in places table base x) (find (is_at x) xs))
+            ∙ ap (λ xs. option_map (byte_in places slot base x) (find (is_at x) xs))
             (sym (reverse-append rs ts)));
       } where
         is_at : ℕ → Reference → Bool

@@ -1,56 +1,20 @@
--- The table of slots, filled from the last, and the slots' bytes.
-use Rattle.std.proofs.Common.{◌≡◌, ℕ, ◌+◌, ◌-◌, ◌*◌, ◌/◌, ◌%◌, ◌<◌, ◌≤◌, List, ◌∷◌, length, get_or}
-use Rattle.std.proofs.Common.{drop, not, cond, Option, Some, None, Bool, true, false, unwrap_or}
+-- The slots' bytes.
+use Rattle.std.proofs.Common.{◌≡◌, ℕ, ◌+◌, ◌-◌, ◌*◌, ◌/◌, ◌%◌, ◌<◌, ◌≤◌, List, length, get_or}
+use Rattle.std.proofs.Common.{Option, Some, None, Bool, true, false}
 use Rattle.std.proofs.Common.{refl, sym, ap, subst, ◌∙◌, arith, inl, inr}
 use Rattle.std.specs.Prelude.{slice_get, slice_index, if◌then◌else◌}
-use Rattle.std.specs.Map.{lookup}
 use Rattle.std.specs.Option.{option_map, option_or}
-use Rattle.std.proofs.lemmas.List.{drop_more}
 use Rattle.std.proofs.lemmas.Bool.{cases_lt}
-use Rattle.std.proofs.lemmas.Bool.Decides.{nat_tests, same_from_decides}
+use Rattle.std.proofs.lemmas.Bool.Decides.{nat_tests}
 use Rattle.omos_base.specs.Endian.{little_bytes}
 use Rattle.omos_base.specs.Fields.{with_number}
 use Rattle.omos_model.specs.declared.mark.Target.{Target}
 use Rattle.link_model.specs.ImageBytes.{covers}
-use Rattle.link_model.specs.Layout.{same_target, slot_number}
 use Rattle.image_write.specs.Addresses.{address_in, slots_byte}
 use Rattle.image_write.specs.Painted.{Painted, run_at}
-use Rattle.link_layout.specs.inside.Targets.{same_target-decides}
 use Rattle.image_write.proofs.Painting.{painted-as, painted-run, painted-then, run_at-behind}
 use Rattle.image_write.proofs.Painting.{run_at-below, run_at-inside}
 use Rattle.std.proofs.lemmas.Option.{slice_get_read}
-
--- ---- the table
-
-same_target-swap : (x y : Target) → same_target x y ≡ same_target y x
-same_target-swap x y =
-    same_from_decides (same_target x y) (same_target y x) (same_target-decides x y)
-    (λ h. sym ((same_target-decides y x).0 h), λ e. (same_target-decides y x).1 (sym e))
-
-entered : (b : Bool) (o : Option ℕ) (behind first k at value n : ℕ) → value ≡ first + 8 * k
-    → at ≡ k + 1
-    → unwrap_or o behind ≡ first + 8 * (at + n)
-    → unwrap_or (cond b (Some value) o) behind ≡ first + 8 * (k + cond (not b) (1 + n) 0)
-entered true o behind first k at value n v a h = omega arith
-entered false o behind first k at value n v a h = h ∙ omega arith
-
-pub table-goes : (slots : List Target) (k at : ℕ) (s key t : Target) (behind first value : ℕ)
-    (new old : List (Target × ℕ))
-    → k < length slots → s ≡ get_or slots k s → key ≡ s → value ≡ first + 8 * k → at ≡ k + 1
-    → lookup (same_target t) new
-    ≡ cond (same_target key t) (Some value) (lookup (same_target t) old)
-    → unwrap_or (lookup (same_target t) old) behind
-    ≡ first + 8 * (at + slot_number (drop at slots) t)
-    → unwrap_or (lookup (same_target t) new) behind ≡ first + 8 * (k + slot_number (drop k slots) t)
-table-goes slots k at s key t behind first value new old lt es ek v a h old_is =
-    ap (λ o. unwrap_or o behind)
-    (h ∙ (λ i. cond ((same_target-swap key t ∙ ap (same_target t) ek) i) (Some value)
-    (lookup (same_target t) old)))
-    ∙ entered (same_target t s) (lookup (same_target t) old) behind first k at value
-    (slot_number (drop (k + 1) slots) t) v a
-    (old_is ∙ ap (λ n. first + 8 * (at + slot_number (drop n slots) t)) a)
-    ∙ ap (λ xs. first + 8 * (k + slot_number xs t))
-    (sym (drop_more slots k s lt ∙ (λ i. sym es i ∷ drop (k + 1) slots)))
 
 -- ---- the bytes
 
@@ -147,3 +111,8 @@ slots-go places base slots begin i value target new mid old lt ev et fits en bef
     painted-as (slots_byte places base slots begin (i + 1)) (painted-then later before)
     (λ x _. slots_byte-next places base slots begin i target (little_bytes 8 value) x lt et
     (ap (little_bytes 8) ev) refl)
+
+-- what is made of an item is read where the item is
+pub read-as : (xs : List Target) (i : ℕ) (x t : Target) → t ≡ x → x ≡ get_or xs i x
+    → t ≡ get_or xs i t
+read-as xs i x t e h = e ∙ h ∙ ap (get_or xs i) (sym e)

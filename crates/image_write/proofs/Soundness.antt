@@ -51,7 +51,7 @@ pub record IsPlanned (m : Module) (l : Placing) : Type 0 where
   pub placing : l ≡ placing_of (program_plan m)
   pub pages : all_pages (parts_of_module m) ≤ 2047
 
-is-planned : (m : Module) (l : Placing) → IsLayoutOf m l → IsPlanned m l
+pub is-planned : (m : Module) (l : Placing) → IsLayoutOf m l → IsPlanned m l
 is-planned m l laid =
     let parts = parts_of_module m in
     let split =
@@ -105,6 +105,7 @@ sound law x m l ism laid groups lawful =
     let within = slots-inside parts in
     let many : length l.slots ≡ length (slots_of parts) = ap length slots in
     record {
+      own = groups;
       plan = p.plan ∙ ap Ok (sym (ap (plan_with m) placing));
       groups = are;
       near = λ g. subst (λ (n : ℕ). n ≤ 2 ^ 52) (sym (are.begins g)) (near g parts pages);

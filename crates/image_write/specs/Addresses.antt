@@ -1,15 +1,14 @@
--- Addresses from the places of pieces and the table of slots.
-use Rattle.std.specs.Prelude.{◌≡◌, ℕ, ◌+◌, ◌-◌, ◌*◌, ◌/◌, ◌%◌, ◌^◌, ◌≤◌, List, []}
+-- Addresses from the places of pieces and slots.
+use Rattle.std.specs.Prelude.{ℕ, ◌+◌, ◌-◌, ◌*◌, ◌/◌, ◌%◌, ◌^◌, ◌≤◌, List, []}
 use Rattle.std.specs.Prelude.{Option, None, slice_get}
 use Rattle.std.specs.Prelude.{slice_index, unwrap_or, if◌then◌else◌}
-use Rattle.std.specs.Map.{lookup}
 use Rattle.std.specs.Option.{option_map}
 use Rattle.omos_base.specs.Endian.{little_bytes}
 use Rattle.omos_model.specs.declared.mark.Target.{Target}
 use Rattle.omos_model.specs.declared.mark.Target.TheVariants.{Inside, Fixed}
 use Rattle.link_model.specs.ImageBytes.{covers}
-use Rattle.link_model.specs.Layout.{same_target, slot_number}
-use Rattle.image_write.specs.declared.slots.SlotTable.{SlotTable}
+use Rattle.link_model.specs.Layout.{slot_number}
+use Rattle.link_model.specs.Module.{Placing}
 
 -- where the pieces of a leaf stand, counted from the base
 abbrev pub row_in : List (List ℕ) → ℕ → List ℕ
@@ -34,12 +33,8 @@ address_in places base (Inside leaf piece offset) = base + place_in places leaf 
 address_in places base (Fixed value) = value
 
 -- the address of a target's slot
-abbrev pub slot_in : SlotTable → Target → ℕ
-slot_in table target = unwrap_or (lookup (same_target target) table.addresses.entries) table.behind
-
--- the table of these slots, the first of which has this address
-pub record IsTable (table : SlotTable) (slots : List Target) (first : ℕ) : Type 0 where
-  pub each : (t : Target) → slot_in table t ≡ first + 8 * slot_number slots t
+abbrev pub slot_in : Placing → ℕ → Target → ℕ
+slot_in l base target = base + (l.groups.slots + 8 * slot_number l.slots target)
 
 -- of the first `count` of slots that begin there, each of which holds its target's address
 abbrev pub slots_byte : List (List ℕ) → ℕ → List Target → ℕ → ℕ → ℕ → Option ℕ

@@ -1,4 +1,4 @@
--- The fields of references, from the places of pieces and the table of slots.
+-- The fields of references, from the places of pieces and the addresses of slots.
 use Rattle.std.specs.Prelude.{◌≡◌, ℕ, ◌+◌, ◌-◌, ◌<◌, ◌≤◌, List, All, length, map}
 use Rattle.std.specs.Prelude.{reverse, get_or, Option, Some, None}
 use Rattle.std.specs.Prelude.{Result, MatchResult, is_some, slice_index, unwrap_or, if◌then◌else◌}
@@ -9,6 +9,7 @@ use Rattle.omos_model.specs.FragmentParts.{width}
 use Rattle.omos_model.specs.declared.entry.Entry.{Entry}
 use Rattle.omos_model.specs.declared.fragment.Fixup.{Fixup}
 use Rattle.omos_model.specs.declared.mark.Landing.{Landing}
+use Rattle.omos_model.specs.declared.mark.Target.{Target}
 use Rattle.omos_model.specs.declared.refusal.Refusal.{Refusal}
 use Rattle.omos_model.specs.declared.refusal.Refusal.TheVariants.{Overflow}
 use Rattle.link_model.specs.Field.{field_value}
@@ -16,8 +17,7 @@ use Rattle.link_model.specs.ImageBytes.{covers}
 use Rattle.link_model.specs.Layout.{target_at}
 use Rattle.link_model.specs.Plan.{first_in}
 use Rattle.link_model.specs.Program.{Reference, reference_of}
-use Rattle.image_write.specs.declared.slots.SlotTable.{SlotTable}
-use Rattle.image_write.specs.Addresses.{address_in, place_in, slot_in}
+use Rattle.image_write.specs.Addresses.{address_in, place_in}
 use Rattle.image_write.specs.Painted.{Painted}
 use Rattle.link_layout.specs.Slots.{fixups_in}
 
@@ -39,13 +39,13 @@ pub record AreFieldsInside (size : ℕ) (places : List (List ℕ)) (leaves : Lis
   pub each : (k : ℕ) (leaf : Entry) → k < length leaves → leaf ≡ get_or leaves k leaf
       → All (IsFieldInside size places k) (fixups_in leaf)
 
-module _ (places : List (List ℕ)) (table : SlotTable) (base : ℕ) where
+module _ (places : List (List ℕ)) (slot : Target → ℕ) (base : ℕ) where
   -- the number that the field gets, if the value fits
   abbrev pub field_number : Reference → Option ℕ
   field_number r =
       let target = target_at r.landing in
       field_value r.fixup.kind (address_in places base target) r.fixup.addend
-      (base + field_place_in places r) (slot_in table target)
+      (base + field_place_in places r) (slot target)
 
   -- L13 where it doesn't
   abbrev pub overflow_in : Reference → Option Refusal

@@ -2,28 +2,28 @@
 use Rattle.std.specs.Prelude.{◌≡◌, ℕ, List, length, Option, Some, None, Result, MatchResult}
 use Rattle.std.specs.Option.{option_or}
 use Rattle.omos_model.specs.declared.entry.Entry.{Entry}
+use Rattle.omos_model.specs.declared.mark.Target.{Target}
 use Rattle.omos_model.specs.declared.refusal.Refusal.{Refusal}
 use Rattle.link_model.specs.Layout.{slots_begin}
 use Rattle.link_model.specs.Plan.{Plan, first_in}
 use Rattle.link_model.specs.Program.{references}
-use Rattle.image_write.specs.declared.slots.SlotTable.{SlotTable}
 use Rattle.image_write.specs.Addresses.{slots_byte}
 use Rattle.image_write.specs.Fields.{last_byte, overflow_in}
 use Rattle.image_write.specs.Painted.{Painted}
 use Rattle.image_write.specs.Sections.{first_byte, placed_in}
 
-module _ (plan : Plan) (base : ℕ) (table : SlotTable) (leaves : List Entry) where
+module _ (plan : Plan) (base : ℕ) (slot : Target → ℕ) (leaves : List Entry) where
   -- of a field, else of a slot, else of a piece
   abbrev pub filled_byte : ℕ → Option ℕ
   filled_byte x =
-      option_or (last_byte plan.places table base (references plan.parts) x)
+      option_or (last_byte plan.places slot base (references plan.parts) x)
       (option_or
       (slots_byte plan.places base plan.slots (slots_begin plan.parts) (length plan.slots) x)
       (first_byte (placed_in plan.places leaves) x))
 
   -- the reason for which a value doesn't fit, if there is one
   abbrev pub first_overflow : Option Refusal
-  first_overflow = first_in (overflow_in plan.places table base) (references plan.parts)
+  first_overflow = first_in (overflow_in plan.places slot base) (references plan.parts)
 
   -- all values fit, and all bytes are written
   pub record IsComplete (new old : List ℕ) : Type 0 where

@@ -20,6 +20,7 @@ IsLayoutOf m l = (plan : Plan) × (plan_of_module m ≡ Ok plan) × (l ≡ placi
 
 -- the module and its layout make the plan, and all that they place lies in the file
 pub record IsSound (x : Groups) (m : Module) (l : Placing) : Type 0 where
+  pub own : x ≡ l.groups
   pub plan : plan_of_module m ≡ Ok (plan_with m l)
   pub groups : AreGroups x (parts_of_module m)
   pub near : (g : Group) → bytes_of x.begins g ≤ 2 ^ 52

@@ -11,16 +11,17 @@ ghost use Rattle.image_write.specs.Addresses.{AreLow, address_in, max_place, row
 ghost use Rattle.image_write.specs.Fields.{AreFieldsInside, IsFieldInside, Patches, references_of};
 
 use crate::addresses::{address_in, place_at, row_in};
-use crate::slots::SlotTable;
 use link_layout::{fixups_in, is_got, target_at};
+use link_model::Layout;
 use omos_base::{Row, Shared};
 use omos_model::{Entry, Fixup, Landing, Refusal};
 
 /// What fields are computed from.
 #[derive(Clone, Copy)]
 pub struct Ground<'a> {
+    pub layout: &'a Layout,
+    /// Those of the layout, at hand.
     pub places: &'a [Row<u64>],
-    pub table: &'a SlotTable,
     pub base: u64,
 }
 
@@ -44,11 +45,11 @@ fn value_at(ground: &Ground, p: u64, fixup: &Fixup, landing: &Landing) -> Option
     ensures { let target = target_at landing.now in
         result ≡ field_value fixup.now.kind
         (address_in ground.now.places.now ground.now.base target)
-        fixup.now.addend p (slot_in ground.now.table.now target) }
+        fixup.now.addend p (slot_in ground.now.layout.now ground.now.base target) }
 {
     let kind = fixup.kind;
     if is_got(kind) {
-        let g = ground.table.address(target_at(landing));
+        let g = ground.base + ground.layout.slot(target_at(landing));
         reloc_x64::value(kind, 0, fixup.addend, p, g)
     } else {
         let s = address_at(ground, landing);
@@ -71,7 +72,8 @@ fn patch(
     requires row { row.now ≡ row_in ground.now.places.now leaf }
     requires base { ground.now.base ≤ max_place }
     requires inside { IsFieldInside (length body.old) ground.now.places.now leaf fixup.now }
-    ensures { Patches ground.now.places.now ground.now.table.now ground.now.base
+    ensures { Patches ground.now.places.now
+        (slot_in ground.now.layout.now ground.now.base) ground.now.base
         (reference_of leaf (number, (fixup.now, landing.now)) ∷ []) result body.new body.old }
 {
     let place = place_at(row, fixup.piece) + u64::from(fixup.offset);
@@ -98,7 +100,8 @@ fn patch_leaf(
     requires base { ground.now.base ≤ max_place }
     requires few { length fixups.now ≤ max_entries }
     requires inside { All (IsFieldInside (length body.old) ground.now.places.now leaf) fixups.now }
-    ensures { Patches ground.now.places.now ground.now.table.now ground.now.base
+    ensures { Patches ground.now.places.now
+        (slot_in ground.now.layout.now ground.now.base) ground.now.base
         (references_of leaf fixups.now landings.now) result body.new body.old }
 {
     let row = row_in(ground.places, leaf);
@@ -128,7 +131,8 @@ pub fn patch_fields(
     requires few { length leaves.now ≤ 256 }
     requires count { length landings.now ≡ length leaves.now }
     requires inside { AreFieldsInside (length body.old) ground.now.places.now leaves.now }
-    ensures { Patches ground.now.places.now ground.now.table.now ground.now.base
+    ensures { Patches ground.now.places.now
+        (slot_in ground.now.layout.now ground.now.base) ground.now.base
         (references (map part_with (zip leaves.now landings.now))) result body.new body.old }
 {
     for leaf in 0..leaves.len() {

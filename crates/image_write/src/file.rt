@@ -10,7 +10,6 @@ use crate::body::fill;
 use crate::fields::Ground;
 use crate::groups::groups_in;
 use crate::headers::page_in;
-use crate::slots::SlotTable;
 use link_model::{Evaluated, Layout};
 use omos_base::{Bytes, Fault, Row};
 use omos_model::Refusal;
@@ -46,10 +45,9 @@ pub fn write(
     ensures written { Writes evaluated.now base result }
 {
     let groups = groups_in(evaluated, layout);
-    let table = SlotTable::of(alloc, evaluated.seed(), layout.slots(), base + groups.slots)?;
     let ground = Ground {
+        layout,
         places: layout.places(),
-        table: &table,
         base,
     };
     let entry = entry_in(layout, ground.places, base);
@@ -57,7 +55,7 @@ pub fn write(
     let head = page.len();
     page.push_zeros(groups.begins.zeros as usize)?;
     let mut bytes = page.into_vec();
-    match fill(&mut bytes, head, &ground, groups, evaluated, layout) {
+    match fill(&mut bytes, head, &ground, groups, evaluated) {
         Ok(()) => Ok(Bytes::from_vec(bytes)),
         Err(refusal) => Err(Fault::Refused(refusal)),
     }

@@ -1,7 +1,8 @@
 //! The bytes of an image: a page with the headers, the pieces of the leaves, the slots and the
 //! fields, as a static executable (System V gABI, chapters 4 and 5).
 //!
-//! Nothing here lays out or chooses a base.
+//! `image_at` lays a module out and writes it; `write` takes a layout that stands. Nothing here
+//! chooses a base.
 #![tactic(auto)]
 
 mod addresses;
@@ -10,7 +11,9 @@ mod fields;
 mod file;
 mod groups;
 mod headers;
+mod image;
 mod sections;
 mod slots;
 
 pub use file::write;
+pub use image::image_at;

@@ -1,7 +1,7 @@
 //! The answer of a link.
 
 use anyhow::{Result, anyhow};
-use link_plan::{link, plan};
+use link_plan::link_path;
 use name_tree::Snap;
 use omos_base::{Bytes, Fault, PathName};
 use omos_model::Refusal;
@@ -20,11 +20,7 @@ fn line_of(alloc: Global, fault: Fault<Refusal>) -> Result<Bytes> {
 
 /// The image of a path at 0x400000, or the line of its refusal.
 pub(crate) fn linked(alloc: Global, snap: &Snap, path: &PathName) -> Result<Bytes> {
-    let planned = match plan(alloc, snap, path) {
-        Ok(planned) => planned,
-        Err(fault) => return line_of(alloc, fault),
-    };
-    match link(alloc, &planned, BASE) {
+    match link_path(alloc, snap, path, BASE) {
         Ok(linked) => Ok(Bytes::from_slice(alloc, linked.bytes())?),
         Err(fault) => line_of(alloc, fault),
     }

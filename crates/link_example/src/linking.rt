@@ -1,8 +1,7 @@
 //! The image that a blueprint makes of two objects.
 
-ghost use Rattle.std.specs.Prelude.{◌≡◌, Ok, Err, IfOk};
+ghost use Rattle.std.specs.Prelude.{◌≡◌, IfOk};
 ghost use Rattle.omos_base.specs.Fault.{MatchFault};
-ghost use Rattle.link_model.specs.Answer.{answer};
 ghost use Rattle.link_example.specs.Entries.{namespace_of};
 ghost use Rattle.link_example.specs.Links.{HasFailure};
 ghost use Rattle.link_example.specs.Links.{IsAnswerImage};
@@ -10,11 +9,11 @@ ghost use Rattle.link_example.specs.Links.{IsAnswerImage};
 use crate::entries::{blueprint, object};
 use crate::failure::Failure;
 use crate::published::Published;
-use link_model::{Linked, laws};
-use link_plan::{link, plan};
+use link_model::Linked;
+use link_plan::link_path;
 use name_tree::Snap;
 use omos_base::{Fault, NoMemory, PathName, Shared};
-use omos_model::{Entry, Refusal};
+use omos_model::Entry;
 use seeded_hash::Seed;
 use std::alloc::Global;
 
@@ -34,16 +33,6 @@ fn version_of(
     let one = none.with(first.0, 1, first.1)?;
     let two = one.with(second.0, 2, second.1)?;
     two.with(third.0, 3, third.1)
-}
-
-/// The image of a path on a version of the namespace.
-fn linked(alloc: Global, snap: &Snap, path: &PathName) -> Result<Linked, Fault<Refusal>>
-    ensures { MatchFault result (λ x. answer snap.now.entries path.now 4194304 ≡ Ok x.bytes)
-        (λ x. answer snap.now.entries path.now 4194304 ≡ Err x) }
-{
-    laws::footprints_decide();
-    let planned = plan(alloc, snap, path)?;
-    link(alloc, &planned, BASE)
 }
 
 /// The image at 0x400000 of a blueprint that may name two objects.
@@ -75,7 +64,7 @@ pub fn link_two(
         Err(Fault::NoMemory) => return Err(Fault::NoMemory),
     };
     let snap = version_of(alloc, one, two, three)?;
-    match linked(alloc, &snap, third.path) {
+    match link_path(alloc, &snap, third.path, BASE) {
         Ok(linked) => Ok(linked),
         Err(Fault::Refused(fault)) => Err(Fault::Refused(Failure::Link(fault))),
         Err(Fault::NoMemory) => Err(Fault::NoMemory),

@@ -5,7 +5,7 @@ use Rattle.omos_model.specs.declared.fragment.Group.{Group}
 use Rattle.omos_model.specs.declared.fragment.Group.TheVariants.{Code, Consts, Vars, Zeros}
 use Rattle.omos_model.specs.declared.fragment.Piece.{Piece}
 use Rattle.link_model.specs.Program.{Parts}
-use Rattle.link_model.specs.Layout.{aligned, all_pages, end_of, end_with, group_begin, group_size}
+use Rattle.link_model.specs.Layout.{aligned, all_pages, end_with, group_begin, group_size}
 use Rattle.link_model.specs.Layout.{page, pages_of, program_pieces}
 use Rattle.link_model.specs.declared.groups.ByGroup.{ByGroup}
 use Rattle.link_model.specs.declared.groups.Groups.{Groups}

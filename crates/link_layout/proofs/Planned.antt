@@ -25,6 +25,7 @@ use Rattle.link_model.specs.Plan.{unless_refused, unresolved}
 use Rattle.link_model.specs.Program.{Parts, landings_of}
 use Rattle.link_layout.specs.declared.program.Program.{Program}
 use Rattle.link_layout.specs.IsLaid.{IsLaid}
+use Rattle.link_layout.specs.inside.References.{RefusesFor}
 use Rattle.link_layout.specs.Program.{IsProgramOf, Lays, program_meaning, parts_in, plan_in}
 
 -- a module has a row of landings for each leaf
@@ -71,6 +72,14 @@ laid p l small started bound pages groups places slots entry lo hi = (
     entry = entry i;
   }),
 )
+
+-- the start is refused
+pub unstarted : (p : Program) (fault : Fault Refusal) → too_large (parts_in p) ≡ None
+    → RefusesFor {T = Option Target} (no_start (program_meaning p) p.start.now) (Err fault)
+    → Lays (Err fault) p
+unstarted p (Refused x) small h =
+    λ lo hi. (λ i. plan_unless p lo hi (first_of (small i) (h i) (unresolved (parts_in p))))
+unstarted p NoMemory small h = tt
 
 -- ---- a module
 

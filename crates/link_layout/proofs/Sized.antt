@@ -1,5 +1,5 @@
 -- What the calls over a program's leaves and landings say of its parts.
-use Rattle.std.proofs.Common.{◌≡◌, ℕ, ◌≤◌, List, [], length, fold, map, sym, ap, ◌∙◌, arith}
+use Rattle.std.proofs.Common.{◌≡◌, ℕ, ◌≤◌, List, [], length, fold, sym, ap, ◌∙◌, arith}
 use Rattle.std.specs.List.{zip}
 use Rattle.omos_model.specs.declared.mark.Target.{Target}
 use Rattle.link_model.specs.declared.groups.ByGroup.{ByGroup}

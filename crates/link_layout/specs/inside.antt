@@ -1,3 +1,2 @@
 pub mod ByGroup
-pub mod Targets
 pub mod References

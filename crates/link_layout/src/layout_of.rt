@@ -1,6 +1,6 @@
 //! The layout of a program, or why it has no image.
 
-ghost use Rattle.std.specs.Prelude.{◌≡◌, ◌^◌, ◌≤◌, IfOk};
+ghost use Rattle.std.specs.Prelude.{◌≡◌, ◌+◌, ◌*◌, ◌^◌, ◌≤◌, IfOk, length};
 ghost use Rattle.omos_model.specs.declared.fragment.Group.{Group};
 ghost use Rattle.link_model.specs.Groups.{bytes_of, groups_of};
 ghost use Rattle.link_model.specs.Layout as model;
@@ -17,7 +17,8 @@ use crate::program::{Program, program_of};
 use crate::references::check_references;
 use crate::sizes::{all_pages, groups_of};
 use crate::slots::slots_of;
-use link_model::{Evaluated, Groups, Layout};
+use indexmap::IndexSet;
+use link_model::{Evaluated, Groups, Layout, Slot};
 use omos_base::{Fault, NoMemory, Row};
 use omos_model::{Refusal, Start, Target};
 use seeded_hash::Seed;
@@ -27,13 +28,18 @@ use std::alloc::Global;
 const MAX_PAGES: u64 = 2_047;
 
 /// The slots of a program, and where its groups stand.
-fn measure(alloc: Global, seed: Seed, program: &Program) -> Result<(Row<Target>, Groups), NoMemory>
+fn measure(
+    alloc: Global,
+    seed: Seed,
+    program: &Program,
+) -> Result<(IndexSet<Slot, Seed>, Groups), NoMemory>
     requires { IsFew program.now }
-    ensures slots { IfOk result (λ x. x.0 ≡ model.slots_of (parts_in program.now)) }
+    ensures slots { IfOk result (λ x. x.0.keys ≡ model.slots_of (parts_in program.now)) }
     ensures groups { IfOk result (λ x. x.1 ≡ groups_of (parts_in program.now)) }
     ensures sizes { IfOk result (λ x. AreSizes x.1.sizes (parts_in program.now)) }
     ensures near { IfOk result (λ x. AreAtMost (2 ^ 49) x.1.sizes) }
     ensures begins { IfOk result (λ x. (g : Group) → bytes_of x.1.begins g ≤ 2 ^ 52) }
+    ensures fit { IfOk result (λ x. x.1.slots + 8 * length x.0.keys ≤ 2 ^ 56) }
 {
     let slots = slots_of(alloc, seed, program.leaves, program.landings)?;
     let groups = groups_of(&ends_of(program.leaves), slots.as_slice());
@@ -83,7 +89,8 @@ fn place(alloc: Global, program: &Program, groups: &Groups) -> Result<Row<Row<u6
 /// - L11, a reference is bound to nothing and isn't weak; the first by leaf and number.
 ///
 /// It passes twice over the pieces and twice over the references, and looks each target of a GOT
-/// fixup up in a table. No object is copied. Want of memory may come where any of this grows.
+/// fixup up in a table, which the layout keeps. No object is copied. Want of memory may come where
+/// any of this grows.
 pub fn lay_program(alloc: Global, seed: Seed, program: &Program) -> Result<Layout, Fault<Refusal>>
     requires few { IsFew program.now }
     ensures laid { Lays result program.now }

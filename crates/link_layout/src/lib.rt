@@ -2,8 +2,7 @@
 //! is an evaluated module, or the parts of one.
 //!
 //! Beside the layout it offers what an image is written from as well: the pieces and fixups of a
-//! leaf, and the slot of a target as the key of a table. Nothing here chooses a base or computes a
-//! field.
+//! leaf, and which fixups ask for a slot. Nothing here chooses a base or computes a field.
 #![tactic(auto)]
 
 mod layout_of;
@@ -19,5 +18,5 @@ mod slots;
 pub use layout_of::{lay, lay_program};
 pub use pieces::{are_lawful, pieces_in};
 pub use program::Program;
-pub use slot::{Slot, is_got, target_at};
+pub use slot::{is_got, target_at};
 pub use slots::fixups_in;

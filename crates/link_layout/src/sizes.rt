@@ -9,11 +9,10 @@ ghost use Rattle.link_layout.specs.inside.ByGroup.{AreAtMost};
 ghost use Rattle.link_layout.specs.Layout.{AreBegins, AreEnds, AreSizes};
 
 use crate::offsets::{PAGE, aligned, pages_of};
-use link_model::{ByGroup, Groups};
-use omos_model::Target;
+use link_model::{ByGroup, Groups, Slot};
 
 /// Where Vars ends, behind its slots of 8 bytes. They begin at the next multiple of 8.
-fn end_with_slots(end: u64, slots: &[Target]) -> u64
+fn end_with_slots(end: u64, slots: &[Slot]) -> u64
     requires end { end ≤ 2 ^ 48 }
     requires few { length slots.now ≤ 1048576 }
     ensures value { result ≡ end_with_slots end slots.now }
@@ -27,7 +26,7 @@ fn end_with_slots(end: u64, slots: &[Target]) -> u64
 
 /// The sizes of the groups whose pieces end there, and that have these slots: Vars ends with its
 /// slots, the others with their pieces.
-fn sizes_of(ends: &ByGroup, slots: &[Target]) -> ByGroup
+fn sizes_of(ends: &ByGroup, slots: &[Slot]) -> ByGroup
     requires near { (g : Group) → bytes_of ends.now g ≤ 2 ^ 48 }
     requires few { length slots.now ≤ 1048576 }
     ensures sizes { (parts : Parts) → AreEnds ends.now (program_pieces parts)
@@ -59,13 +58,14 @@ fn begins_of(sizes: &ByGroup) -> ByGroup
 }
 
 /// Where the groups stand whose pieces end there, and that have these slots.
-pub fn groups_of(ends: &ByGroup, slots: &[Target]) -> Groups
+pub fn groups_of(ends: &ByGroup, slots: &[Slot]) -> Groups
     requires near { (g : Group) → bytes_of ends.now g ≤ 2 ^ 48 }
     requires few { length slots.now ≤ 1048576 }
     ensures groups { (parts : Parts) → AreEnds ends.now (program_pieces parts)
         → slots_of parts ≡ slots.now → result ≡ groups_of parts }
     ensures sizes { AreAtMost (2 ^ 49) result.sizes }
     ensures begins { (g : Group) → bytes_of result.begins g ≤ 2 ^ 52 }
+    ensures slots { result.slots ≤ 2 ^ 53 }
 {
     let sizes = sizes_of(ends, slots);
     let begins = begins_of(&sizes);

@@ -5,10 +5,11 @@ ghost use Rattle.std.specs.List.{zip};
 ghost use Rattle.omos_model.specs.FragmentParts.{max_entries};
 ghost use Rattle.link_layout.specs.Slots.{fixups_in, slots_with, slots_with_leaf};
 
-use crate::slot::{Slot, is_got, target_at};
+use crate::slot::{is_got, target_at};
 use indexmap::IndexSet;
+use link_model::Slot;
 use omos_base::{NoMemory, Row, Shared};
-use omos_model::{Entry, Fixup, Landing, Target};
+use omos_model::{Entry, Fixup, Landing};
 use seeded_hash::Seed;
 use std::alloc::Global;
 
@@ -67,19 +68,18 @@ fn fill_slots(
     Ok(())
 }
 
-/// The targets of the slots, in order of first use. It passes over the references once, and hashes
-/// targets by the seed.
+/// The slots, in order of first use. It passes over the references once. The table hashes by the
+/// seed.
 pub fn slots_of(
     alloc: Global,
     seed: Seed,
     leaves: &[Shared<Entry>],
     landings: &[Row<Landing>],
-) -> Result<Row<Target>, NoMemory>
+) -> Result<IndexSet<Slot, Seed>, NoMemory>
     ensures { IfOk result (λ slots.
-        slots ≡ fold slots_with_leaf [] (zip leaves.now landings.now)) }
+        slots.keys ≡ fold slots_with_leaf [] (zip leaves.now landings.now)) }
 {
     let mut slots = IndexSet::with_hasher(alloc, seed);
     fill_slots(&mut slots, leaves, landings)?;
-    let targets = slots.iter().map(|slot| slot.target()).collect(alloc)?;
-    Ok(Row::from_vec(targets))
+    Ok(slots)
 }

@@ -2,6 +2,8 @@ pub mod Field
 pub mod Program
 pub mod Layout
 pub mod Groups
+pub mod Targets
+pub mod Slots
 pub mod Plan
 pub mod ImageBytes
 pub mod Answer

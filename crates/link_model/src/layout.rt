@@ -1,25 +1,32 @@
 //! What laying a module out finds.
 
-ghost use Rattle.std.specs.Prelude.{◌≡◌, IsSome, Some};
+ghost use Rattle.std.specs.Prelude.{◌≡◌, ◌+◌, ◌*◌, ◌^◌, ◌≤◌, IsSome, Some, length};
+ghost use Rattle.link_model.specs.Layout.{slot_number};
 ghost use Rattle.link_model.specs.Module.{Placing, piece_place};
 
 use crate::groups::Groups;
+use crate::slot::Slot;
+use indexmap::IndexSet;
 use omos_base::Row;
 use omos_model::Target;
+use seeded_hash::Seed;
 use std::marker::Model;
 
 /// Where the groups, the pieces and the slots of a module stand, counted from the base, and what
 /// its start is: all that an image is written from but the module itself and the base.
-#[derive(Debug, Drop)]
+///
+/// It keeps that the slots end within 2^56 bytes.
+#[derive(Drop)]
 pub struct Layout {
     pages: u32,
     groups: Groups,
     places: Row<Row<u64>>,
-    slots: Row<Target>,
+    slots: IndexSet<Slot, Seed>,
     entry: Option<Target>,
 }
 
 impl Model for Layout {
+    ghost use Rattle.std.specs.Prelude.{◌+◌, ◌*◌, ◌^◌, ◌≤◌, length};
     ghost use Rattle.link_model.specs.Module.{Placing};
 
     ghost Value = { Placing };
@@ -28,27 +35,30 @@ impl Model for Layout {
       pages = l.pages;
       groups = l.groups;
       places = l.places;
-      slots = l.slots;
+      slots = l.slots.keys;
       entry = l.entry;
     } };
+
+    ghost invariant = { λ l. l.groups.slots + 8 * length l.slots.keys ≤ 2 ^ 56 };
 }
 
 impl Layout {
     /// A layout of so many pages, with where its groups stand, the place of each piece by leaf and
-    /// number, the targets of the slots in their order, and what the start is, if there is one. It
-    /// takes no memory.
+    /// number, the slots in their order, and what the start is, if there is one. It takes no
+    /// memory.
     pub fn of(
         pages: u32,
         groups: Groups,
         places: Row<Row<u64>>,
-        slots: Row<Target>,
+        slots: IndexSet<Slot, Seed>,
         entry: Option<Target>,
     ) -> Layout
+        requires { groups.slots + 8 * length slots.keys ≤ 2 ^ 56 }
         ensures { result ≡ record {
           pages = pages;
           groups = groups;
           places = places;
-          slots = slots;
+          slots = slots.keys;
           entry = entry;
         } }
     {
@@ -90,11 +100,22 @@ impl Layout {
         self.places.as_slice()
     }
 
-    /// The targets of the slots, in their order.
-    pub fn slots(&self) -> &[Target]
+    /// The slots, in their order.
+    pub fn slots(&self) -> &[Slot]
         ensures { result.now ≡ self.now.slots }
     {
         self.slots.as_slice()
+    }
+
+    /// Where the slot of a target stands, in bytes from the base: one look-up. One that has none
+    /// counts as if it followed the last. It isn't inlined, so that a loop over references stays
+    /// short where few ask for a slot.
+    #[inline(never)]
+    pub fn slot(&self, target: Target) -> u64
+        ensures place { result ≡ self.now.groups.slots + 8 * slot_number self.now.slots target }
+        ensures near { result ≤ 2 ^ 56 }
+    {
+        self.groups.slots + 8 * number_in(&self.slots, target) as u64
     }
 
     /// What the start is, if there is one.
@@ -102,5 +123,16 @@ impl Layout {
         ensures { result ≡ self.now.entry }
     {
         self.entry
+    }
+}
+
+/// The number of a target's slot among these, or how many there are where it has none.
+fn number_in(slots: &IndexSet<Slot, Seed>, target: Target) -> usize
+    ensures number { result ≡ slot_number slots.now.keys target }
+    ensures within { result ≤ length slots.now.keys }
+{
+    match slots.get_index_of(&Slot::of(target)) {
+        Some(number) => number,
+        None => slots.len(),
     }
 }

@@ -12,6 +12,7 @@ pub mod laws;
 mod layout;
 mod linked;
 mod planned;
+mod slot;
 mod start;
 
 pub use evaluated::{Evaluated, Found};
@@ -19,4 +20,4 @@ pub use groups::{ByGroup, Groups};
 pub use layout::Layout;
 pub use linked::Linked;
 pub use planned::Planned;
-pub use start::usual_start;
+pub use slot::Slot;

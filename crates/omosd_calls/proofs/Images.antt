@@ -1,9 +1,6 @@
 -- The answer for an object alone.
 use Rattle.std.proofs.Common.{◌≡◌, ◌≢◌, ℕ, List, [], Option, Some, None, Result, Ok, Err}
 use Rattle.std.proofs.Common.{ap, ◌∙◌}
-use Rattle.omos_base.specs.Fault.{MatchFault}
-use Rattle.omos_base.specs.declared.fault.Fault.{Fault}
-use Rattle.omos_base.specs.declared.fault.Fault.TheVariants.{Refused, NoMemory}
 use Rattle.omos_model.specs.FragmentParts.{FragmentParts}
 use Rattle.omos_model.specs.FragmentOf.{fragment_of}
 use Rattle.omos_model.specs.declared.entry.Entry.TheVariants as entry
@@ -12,9 +9,7 @@ use Rattle.omos_model.specs.declared.refusal.Refusal.{Refusal}
 use Rattle.elf_words.specs.Ehdr.{ehdr_bytes}
 use Rattle.link_model.specs.Answer.{answer, answer_of_plan}
 use Rattle.link_model.specs.ImageBytes.{image_bytes, overflow, file_bytes, unless_overflow}
-use Rattle.image_write.specs.Written.{Writes}
-use Rattle.link_layout.specs.IsLaid.{IsLaid}
-use Rattle.link_model.specs.Module.{Module, alone, plan_of_module}
+use Rattle.link_model.specs.Module.{alone}
 use Rattle.link_model.specs.Plan.{Plan, plan_of}
 use Rattle.omosd_calls.specs.Lone.{lone_base, lone_path, unless_link, unless_object}
 use Rattle.omosd_calls.specs.Lone.{IsLoneImage}
@@ -47,24 +42,3 @@ lone_image-some file image e none = go (fragment_of file) e
         answer-some (plan_of ns lone_path) lone_base image
         (linked (answer ns lone_path lone_base) image h) none
     go (Err x) h = cc
-
--- ---- what is written is the answer
-
-planned : (m : Module) (base : ℕ) (plan : Plan) → plan_of m.footprint m.path ≡ plan_of_module m
-    → plan_of_module m ≡ Ok plan → answer m.footprint m.path base ≡ image_bytes plan base
-planned m base plan law e = ap (λ p. answer_of_plan p base) (law ∙ e)
-
-pub answered_alike : (m : Module) (result : Result (List ℕ) (Fault Refusal))
-    → plan_of m.footprint m.path ≡ plan_of_module m → Writes m lone_base result
-    → MatchFault result (λ image. answer m.footprint m.path lone_base ≡ Ok image)
-    (λ x. answer m.footprint m.path lone_base ≡ Err x)
-answered_alike m (Ok image) law h = planned m lone_base h.0 law h.1 ∙ h.2
-answered_alike m (Err (Refused x)) law h = planned m lone_base h.0 law h.1 ∙ h.2
-answered_alike m (Err NoMemory) law h = tt
-
-pub refused_alike : (m : Module) (fault : Fault Refusal)
-    → plan_of m.footprint m.path ≡ plan_of_module m → IsLaid (Err fault) m
-    → MatchFault {T = List ℕ} (Err fault) (λ image. answer m.footprint m.path lone_base ≡ Ok image)
-    (λ x. answer m.footprint m.path lone_base ≡ Err x)
-refused_alike m (Refused x) law h = ap (λ p. answer_of_plan p lone_base) (law ∙ h)
-refused_alike m NoMemory law h = tt

@@ -2,17 +2,15 @@
 
 ghost use Rattle.std.specs.Prelude.{◌≡◌, IfOk, Ok, Err};
 ghost use Rattle.omos_base.specs.Fault.{MatchFault};
-ghost use Rattle.link_model.specs.Answer.{answer};
 ghost use Rattle.link_model.specs.Module.{alone};
-ghost use Rattle.omosd_calls.specs.Lone.{lone_answer, lone_base, lone_path};
+ghost use Rattle.omosd_calls.specs.Lone.{lone_answer, lone_path};
 
 use crate::cause::Cause;
 use fragment_read::fragment;
-use image_write::write;
-use link_layout::lay;
-use link_model::{Evaluated, laws};
+use image_write::image_at;
+use link_model::Evaluated;
 use omos_base::{Bytes, Fault, NoMemory, PathName, Shared};
-use omos_model::{Entry, Fragment, Refusal};
+use omos_model::{Entry, Fragment};
 use seeded_hash::Seed;
 use std::alloc::Global;
 
@@ -26,21 +24,6 @@ fn lone_path() -> PathName
     match PathName::read(b"/o") {
         Ok(path) => path,
         Err(_) => unreachable!(),
-    }
-}
-
-/// The answer for a module's path, on the namespace that its footprint lists.
-fn link(alloc: Global, evaluated: &Evaluated) -> Result<Bytes, Fault<Refusal>>
-    ensures { let m = evaluated.now in MatchFault result
-        (λ image. answer m.footprint m.path lone_base ≡ Ok image)
-        (λ x. answer m.footprint m.path lone_base ≡ Err x) }
-{
-    // What the plan's law asks is what the module keeps.
-    let _path = evaluated.path();
-    laws::modules_have_their_plan();
-    match lay(alloc, evaluated) {
-        Ok(layout) => write(alloc, evaluated, &layout, BASE),
-        Err(fault) => Err(fault),
     }
 }
 
@@ -65,7 +48,7 @@ pub(crate) fn lone_image(alloc: Global, seed: Seed, file: &[u8]) -> Result<Bytes
     let Ok(module) = evaluate(alloc, seed, fragment) else {
         return Err(Fault::NoMemory);
     };
-    match link(alloc, &module) {
+    match image_at(alloc, &module, BASE) {
         Ok(image) => Ok(image),
         Err(Fault::Refused(refusal)) => Err(Fault::Refused(Cause::Link(refusal))),
         Err(Fault::NoMemory) => Err(Fault::NoMemory),

@@ -1,5 +1,5 @@
 use Rattle.std.proofs.Common.{ap, ◌+◌, ◌∙◌}
-use Rattle.image_write.specs.Addresses.{place_in_row}
+use Rattle.image_write.specs.Addresses.{place_in_row, slot_in}
 use Rattle.image_write.proofs.Patched.{patched-at}
 use Rattle.image_write.proofs.fields.patch.Goals as goal
 
@@ -7,6 +7,7 @@ pub returns : goal.returns
 returns c =
     let begin = c.place_at.ensures
     ∙ ap (λ row. place_in_row row c.args.fixup.now.piece) c.requires.row in
-    patched-at c.args.ground.now.places.now c.args.ground.now.table.now c.args.ground.now.base _ _
+    patched-at c.args.ground.now.places.now
+    (slot_in c.args.ground.now.layout.now c.args.ground.now.base) c.args.ground.now.base _ _
     c.in-Some.field _ _ (λ i. begin i + c.from.ensures i) c.in-Some.ensures c.requires.inside.inside
     c.put.ensures

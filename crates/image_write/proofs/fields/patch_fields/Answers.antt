@@ -1,5 +1,6 @@
 use Rattle.std.proofs.Common.{arith, subst, sym}
 use Rattle.std.proofs.lemmas.Result.{err_from_is_err_and}
+use Rattle.image_write.specs.Addresses.{slot_in}
 use Rattle.image_write.specs.Fields.{IsPatched, overflow_in}
 use Rattle.image_write.proofs.Patched.{leaves-all, leaves-more, parts_in, patched-append}
 use Rattle.image_write.proofs.Patched.{refused-leaf}
@@ -15,7 +16,8 @@ returns-in_err-patch_leaf c =
     c.fixups_in.ensures.fixups in
     rw (p.1, p.2)
     (refused-leaf
-    (overflow_in c.args.ground.now.places.now c.args.ground.now.table.now
+    (overflow_in c.args.ground.now.places.now
+    (slot_in c.args.ground.now.layout.now c.args.ground.now.base)
     c.args.ground.now.base) c.loop-leaf.leaf _ (parts_in c.args.leaves.now c.args.landings.now)
     _ more c.loop-leaf.invariant.fit c.in_err-patch_leaf.ensures)
 
@@ -26,7 +28,8 @@ loop-leaf-preserved c =
     c.index-leaves-leaf.result c.index-landings-leaf.result _ _ c.requires.count (omega arith)
     c.index-leaves-leaf.is c.index-landings-leaf.is c.as_slice-row.ensures
     c.fixups_in.ensures.fixups in
-    subst (λ rs. IsPatched c.args.ground.now.places.now c.args.ground.now.table.now
+    subst (λ rs. IsPatched c.args.ground.now.places.now
+    (slot_in c.args.ground.now.layout.now c.args.ground.now.base)
     c.args.ground.now.base rs c.patch_leaf.new.body c.args.body.now)
     (sym more)
     (patched-append _ _ _ _ _ _ c.loop-leaf.body _ c.loop-leaf.invariant
@@ -34,7 +37,8 @@ loop-leaf-preserved c =
 
 pub returns : goal.returns
 returns c =
-    subst (λ rs. IsPatched c.args.ground.now.places.now c.args.ground.now.table.now
+    subst (λ rs. IsPatched c.args.ground.now.places.now
+    (slot_in c.args.ground.now.layout.now c.args.ground.now.base)
     c.args.ground.now.base rs c.loop-leaf.body c.args.body.now)
     (leaves-all c.args.leaves.now c.args.landings.now c.loop-leaf.leaf c.requires.count
     (omega arith)) c.loop-leaf.invariant

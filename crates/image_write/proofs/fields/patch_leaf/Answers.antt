@@ -1,5 +1,6 @@
 use Rattle.std.proofs.Common.{arith, subst, sym}
 use Rattle.std.proofs.lemmas.Result.{err_from_is_err_and}
+use Rattle.image_write.specs.Addresses.{slot_in}
 use Rattle.image_write.specs.Fields.{IsPatched, overflow_in}
 use Rattle.image_write.proofs.Patched.{leaf-all, leaf-more, patched-append, refused-in}
 use Rattle.image_write.proofs.fields.patch_leaf.Goals as goal
@@ -13,7 +14,8 @@ returns-in_err-patch c =
     c.index-fixups-number.is c.index-landings-number.is in
     rw (p.1, p.2)
     (refused-in
-    (overflow_in c.args.ground.now.places.now c.args.ground.now.table.now
+    (overflow_in c.args.ground.now.places.now
+    (slot_in c.args.ground.now.layout.now c.args.ground.now.base)
     c.args.ground.now.base) c.loop-number.number _ _ _ more c.loop-number.invariant.fit
     c.in_err-patch.ensures)
 
@@ -23,7 +25,8 @@ loop-number-preserved c =
     leaf-more c.args.leaf c.args.fixups.now c.args.landings.now c.loop-number.number
     c.index-fixups-number.result c.index-landings-number.result (omega arith)
     c.index-fixups-number.is c.index-landings-number.is in
-    subst (λ rs. IsPatched c.args.ground.now.places.now c.args.ground.now.table.now
+    subst (λ rs. IsPatched c.args.ground.now.places.now
+    (slot_in c.args.ground.now.layout.now c.args.ground.now.base)
     c.args.ground.now.base rs c.patch.new.body c.args.body.now)
     (sym more)
     (patched-append _ _ _ _ _ _ c.loop-number.body _ c.loop-number.invariant
@@ -31,7 +34,8 @@ loop-number-preserved c =
 
 pub returns : goal.returns
 returns c =
-    subst (λ rs. IsPatched c.args.ground.now.places.now c.args.ground.now.table.now
+    subst (λ rs. IsPatched c.args.ground.now.places.now
+    (slot_in c.args.ground.now.layout.now c.args.ground.now.base)
     c.args.ground.now.base rs c.loop-number.body c.args.body.now)
     (leaf-all c.args.leaf c.args.fixups.now c.args.landings.now c.loop-number.number (omega arith))
     c.loop-number.invariant

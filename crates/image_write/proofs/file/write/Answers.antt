@@ -1,7 +1,5 @@
-use Rattle.std.proofs.Common.{ℕ, ◌+◌, List, Ok, ap, subst, sym, ◌∙◌, arith}
+use Rattle.std.proofs.Common.{ℕ, ◌+◌, List, Ok, ap, sym, ◌∙◌}
 use Rattle.omos_model.specs.declared.fragment.Group.TheVariants.{Zeros}
-use Rattle.omos_model.specs.declared.mark.Target.{Target}
-use Rattle.image_write.specs.Addresses.{IsTable}
 use Rattle.image_write.specs.Plans.{plan_with}
 use Rattle.image_write.specs.Written.{entry_in}
 use Rattle.image_write.proofs.Files.{rest-size, written-err, written-ok}
@@ -21,35 +19,27 @@ returns-in-Ok c =
     let m = c.args.evaluated.now in
     let l = c.args.layout.now in
     let base = c.args.base in
-    let first = base + c.groups_in-groups.result.now.slots in
-    let table =
-    subst (λ (s : List Target). IsTable c.in_ok-table.table s first) c.slots.ensures
-    c.in_ok-table.ensures in
     let entry = c.entry_in-entry.ensures
     ∙ ap (λ (ps : List (List ℕ)). entry_in ps base l.entry) c.places.ensures in
     let image =
-    written-ok c.groups_in-groups.result.now m l c.in_ok-table.table base
+    written-ok c.groups_in-groups.result.now m l base
     c.entry_in-entry.result c.len-head.result c.into_vec-bytes.result.items
-    c.fill.new.bytes.items c.in_ok-page.page sound table entry c.in_ok-page.ensures
+    c.fill.new.bytes.items c.in_ok-page.page sound entry c.in_ok-page.ensures
     (c.into_vec-bytes.ensures ∙ c.in_ok-push_zeros.ensures.added) c.len-head.ensures
     c.in-Ok.ensures.0 c.in-Ok.ensures.1 in
     record { written = (plan_with m l, sound.plan, image ∙ ap Ok (sym c.from_vec.ensures)) }
 
-pub returns : goal.returns
-returns c =
+pub returns-in-Err : goal.returns-in-Err
+returns-in-Err c =
     let sound = c.groups_in-groups.ensures.sound in
     let m = c.args.evaluated.now in
     let l = c.args.layout.now in
     let base = c.args.base in
-    let first = base + c.groups_in-groups.result.now.slots in
-    let table =
-    subst (λ (s : List Target). IsTable c.in_ok-table.table s first) c.slots.ensures
-    c.in_ok-table.ensures in
     record {
       written = (
         plan_with m l,
         sound.plan,
-        written-err c.groups_in-groups.result.now m l c.in_ok-table.table base c.in-Err.refusal
-            sound table c.in-Err.ensures,
+        written-err c.groups_in-groups.result.now m l base c.in-Err.refusal
+            sound c.in-Err.ensures,
       );
     }

@@ -7,7 +7,7 @@ returns-in-Ok-linked c =
     answered c.args.first c.args.second c.args.third c.in-Ok.entry c.in-Ok-object.entry
     c.in-Ok-blueprint.entry _ _ _ c.in_ok-snap.snap.entries _ c.in-Ok.ensures c.in-Ok-object.ensures
     c.in-Ok-blueprint.ensures c.copy.ensures c.copy-in-Ok-object.ensures
-    c.copy-in-Ok-blueprint.ensures c.in_ok-snap.ensures c.in-Ok-linked.ensures
+    c.copy-in-Ok-blueprint.ensures c.in_ok-snap.ensures c.in-Ok-linked.ensures.answered
 
 pub returns-in-Err-Refused-linked : goal.returns-in-Err-Refused-linked
 returns-in-Err-Refused-linked c =
@@ -16,4 +16,4 @@ returns-in-Err-Refused-linked c =
     (Err c.in-Err-Refused-linked.fault) c.in-Ok.ensures c.in-Ok-object.ensures
     c.in-Ok-blueprint.ensures c.copy.ensures c.copy-in-Ok-object.ensures
     c.copy-in-Ok-blueprint.ensures c.in_ok-snap.ensures
-    (rw c.in-Err-Refused-linked.field-0-is at c.in-Err-Refused-linked.ensures)
+    (rw c.in-Err-Refused-linked.field-0-is at c.in-Err-Refused-linked.ensures.answered)

@@ -15,6 +15,15 @@ overflow_add-result c =
       c.aligned.ensures.near,
     )
 
+pub returns-clause-slots : goal.returns-clause-slots
+returns-clause-slots c =
+    omega (
+      arith,
+      c.requires.near Vars,
+      c.begins_of-begins.ensures.near Vars,
+      c.aligned.ensures.near,
+    )
+
 pub returns-clause-groups : goal.returns-clause-groups
 returns-clause-groups c = λ parts ends slots.
     groups-same c.args.ends.now c.sizes_of-sizes.result c.begins_of-begins.result c.aligned.result _
