@@ -91,6 +91,7 @@ trials:
 	@tests/readme.py $(OMOSD) $(OMOS)
 	@tests/docs.sh
 	@tests/words.py
+	@tests/inside.py
 
 contrib: build
 	@tests/contrib.sh $(OMOSD) $(OMOS)
