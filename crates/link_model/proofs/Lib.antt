@@ -4,4 +4,5 @@ pub mod Footprints
 pub mod Stamps
 pub mod Ranges
 pub mod Short
+pub mod Descents
 pub mod Places
