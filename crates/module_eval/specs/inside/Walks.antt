@@ -7,7 +7,7 @@ use Rattle.omos_model.specs.Namespace.{Space, look_up}
 use Rattle.omos_model.specs.Term.{Term}
 use Rattle.omos_model.specs.Tree.{tree_of}
 use Rattle.omos_model.specs.declared.refusal.Refusal.{Refusal}
-use Rattle.omos_model.specs.declared.visit.Visit.{Visit}
+use Rattle.omos_model.specs.Visit.{Visit}
 use Rattle.module_share.specs.Trails.{Trail}
 use Rattle.module_eval.specs.Costs.{StayBuilt, read_of}
 use Rattle.module_eval.specs.inside.Counted.{AreCounted, visit_of}
