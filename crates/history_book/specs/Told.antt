@@ -7,8 +7,7 @@ use Rattle.omos_model.specs.Namespace.{Space, namespace_at, version_of}
 use Rattle.omos_model.specs.declared.entry.Entry.{Entry}
 use Rattle.omos_model.specs.declared.placement.Placement.{Placement}
 use Rattle.history_book.specs.Steps.{is_request, put_of, size_of, placement_of, Ask, ask_in}
-use Rattle.history_book.specs.Steps.{note_in}
-use Rattle.history_book.specs.Steps.{is_ask_of, is_answer_of, is_placing_of}
+use Rattle.history_book.specs.Steps.{note_in, is_ask_of, is_answer_of, is_placing_of}
 use Rattle.history_book.specs.declared.step.Note.{Note}
 use Rattle.history_book.specs.declared.step.Step.{Step}
 

@@ -1,8 +1,7 @@
 -- A store keeps what it is, from a link request to its answer.
 use Rattle.std.proofs.Common.{◌≡◌, ℕ, ◌+◌, ◌<◌, ◌≤◌, true, false, ◌&&◌}
 use Rattle.std.proofs.Common.{List, [], ◌∷◌, ◌++◌, length, get_or, refl, ap, sym, ◌∙◌, subst, arith}
-use Rattle.std.proofs.Common.{append_assoc}
-use Rattle.std.proofs.Common.{Some, None, Ok, unwrap_or, append-nil}
+use Rattle.std.proofs.Common.{append_assoc, Some, None, Ok, unwrap_or, append-nil}
 use Rattle.std.specs.List.{All, list_any, remove}
 use Rattle.std.specs.Option.{option_map}
 use Rattle.std.proofs.lemmas.Bool.{and_parts}
@@ -26,14 +25,11 @@ use Rattle.image_cache.specs.Items as held
 use Rattle.image_cache.specs.declared.item.Item.{Item}
 use Rattle.history_book.specs.Steps.{Ask}
 use Rattle.history_book.specs.Told.{requests, version_after, namespace_in, namespace_after, book_of}
-use Rattle.history_book.specs.Told.{ask_of}
-use Rattle.history_book.specs.Told.{note_of, is_answered, is_placed, IsOpen}
+use Rattle.history_book.specs.Told.{ask_of, note_of, is_answered, is_placed, IsOpen}
 use Rattle.history_book.specs.Room.{HasRoom}
 use Rattle.history_book.specs.Owed.{IsNumbered}
 use Rattle.history_book.specs.Cache.{CacheItem, cache_after, item_of, is_hit, is_current}
-use Rattle.history_book.specs.Cache.{without, base_in}
-use Rattle.history_book.specs.Cache.{stored_item}
-use Rattle.history_book.specs.Cache.{is_cached_as}
+use Rattle.history_book.specs.Cache.{without, base_in, stored_item, is_cached_as}
 use Rattle.history_book.specs.Due.{due, storing, storing_for}
 use Rattle.history_book.specs.Legal.{HasPlace, MayEnd}
 use Rattle.history_book.specs.declared.step.Note.{Note}
@@ -45,8 +41,7 @@ use Rattle.history_book.specs.declared.step.Step.TheVariants.{Answered, Evicted,
 use Rattle.history_book.proofs.Grow.{cache_push, namespace_same, namespace_stays, book_push}
 use Rattle.history_book.proofs.Grow.{version_same}
 use Rattle.history_book.proofs.Legality.{due_push, due_push_two, legal_push, legal_push_two}
-use Rattle.history_book.proofs.Legality.{legal_push_three}
-use Rattle.history_book.proofs.Legality.{dues_none, dues_one, dues_two}
+use Rattle.history_book.proofs.Legality.{legal_push_three, dues_none, dues_one, dues_two}
 use Rattle.history_book.proofs.Numbers.{asked_below, ask_now, ask_stays, fresh_ask, fresh_answer}
 use Rattle.history_book.proofs.Numbers.{answered_same}
 use Rattle.history_book.proofs.Numbers.{numbered_other, numbered_ask, numbered_answer}
@@ -54,12 +49,10 @@ use Rattle.history_book.proofs.Rooms.{request_fits, other_fits, answered_fits, p
 use Rattle.history_book.proofs.Rooms.{room_to_answer}
 use Rattle.history_book.proofs.Endings.{note_now}
 use Rattle.history_book.proofs.Caches.{AreApart, caches_are_apart, front_item}
-use Rattle.hub_store.specs.Keeps.{IsStore, AreTold, fact_of, facts}
-use Rattle.hub_store.specs.Keeps.{IsKeptItem}
+use Rattle.hub_store.specs.Keeps.{IsStore, AreTold, fact_of, facts, IsKeptItem}
 use Rattle.hub_store.specs.Parts.{StoreParts, Appended, TicketParts, IsTicket, asking_of}
 use Rattle.hub_store.specs.Links.{IsImageFor, ending, IsPlain, IsPlanFor, place_then}
-use Rattle.hub_store.specs.Links.{place_reply, placing, MayLink, PlaceGives}
-use Rattle.hub_store.specs.Links.{place_for_ticket}
+use Rattle.hub_store.specs.Links.{place_reply, placing, MayLink, PlaceGives, place_for_ticket}
 use Rattle.hub_store.specs.declared.reply.PlaceReply.{PlaceReply}
 use Rattle.hub_store.proofs.Facts.{any_fact, facts_without, touched, item_at_place, All-without}
 use Rattle.hub_store.proofs.Facts.{All-removed}

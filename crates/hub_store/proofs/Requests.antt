@@ -29,8 +29,7 @@ use Rattle.history_book.proofs.Legality.{due_push, due_push_two, legal_push, leg
 use Rattle.history_book.proofs.Legality.{legal_nothing}
 use Rattle.history_book.proofs.Numbers.{numbered_other, numbered_ask, numbered_nothing}
 use Rattle.history_book.proofs.Rooms.{request_fits, other_fits, room_fits}
-use Rattle.hub_store.specs.Keeps.{IsStore, AreTold, facts}
-use Rattle.hub_store.specs.Keeps.{IsKeptItem}
+use Rattle.hub_store.specs.Keeps.{IsStore, AreTold, facts, IsKeptItem}
 use Rattle.hub_store.proofs.Facts.{any_fact, facts_without, All-without}
 use Rattle.hub_store.proofs.Kept.{all_kept}
 

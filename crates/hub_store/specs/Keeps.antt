@@ -5,12 +5,10 @@ use Rattle.omos_base.specs.Limits.{Counts as Limits}
 use Rattle.omos_model.specs.Footprint.{footprint}
 use Rattle.omos_model.specs.Namespace.{Space}
 use Rattle.omos_model.specs.declared.placement.Placement.{Placement}
-use Rattle.image_cache.specs.Items.{path_of}
-use Rattle.image_cache.specs.Items.{is_fresh}
+use Rattle.image_cache.specs.Items.{path_of, is_fresh}
 use Rattle.image_cache.specs.declared.item.Item.{Item}
 use Rattle.history_book.specs.Told.{version_after, namespace_in, namespace_after, book_of}
-use Rattle.history_book.specs.Owed.{IsNumbered}
-use Rattle.history_book.specs.Owed.{StepsFit}
+use Rattle.history_book.specs.Owed.{IsNumbered, StepsFit}
 use Rattle.history_book.specs.Cache.{CacheItem, cache_after}
 use Rattle.history_book.specs.Legal.{IsLegal}
 use Rattle.history_book.specs.declared.step.Step.{Step}

@@ -16,8 +16,7 @@ use Rattle.history_book.specs.declared.step.Note.{Note}
 use Rattle.history_book.specs.declared.step.Note.TheVariants as note
 use Rattle.history_book.specs.declared.step.Step.{Step}
 use Rattle.history_book.specs.declared.step.Step.TheVariants.{Missed, Asked, Placed, Answered}
-use Rattle.hub_store.specs.Parts.{StoreParts, Appended, IsFull, TicketParts, IsTicket}
-use Rattle.hub_store.specs.Parts.{asking_of}
+use Rattle.hub_store.specs.Parts.{StoreParts, Appended, IsFull, TicketParts, IsTicket, asking_of}
 use Rattle.hub_store.specs.Parts.{HasRoomLeft}
 use Rattle.hub_store.specs.declared.reply.AskReply.{AskReply}
 use Rattle.hub_store.specs.declared.reply.AskReply.TheVariants as asked

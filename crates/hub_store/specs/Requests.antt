@@ -13,8 +13,7 @@ use Rattle.history_book.specs.Legal.{max_kept}
 use Rattle.history_book.specs.declared.step.Look.TheVariants as look
 use Rattle.history_book.specs.declared.step.Step.{Step}
 use Rattle.history_book.specs.declared.step.Step.TheVariants.{Put, Missed, Looked, Evicted, Flushed}
-use Rattle.hub_store.specs.Parts.{StoreParts, Appended, IsFull, ReadyParts}
-use Rattle.hub_store.specs.Parts.{HasRoomLeft}
+use Rattle.hub_store.specs.Parts.{StoreParts, Appended, IsFull, ReadyParts, HasRoomLeft}
 use Rattle.hub_store.specs.declared.counts.Counts.{Counts}
 use Rattle.hub_store.specs.declared.counts.Totals.{Totals}
 use Rattle.hub_store.specs.declared.reply.FlushReply.{FlushReply}

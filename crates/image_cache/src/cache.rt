@@ -5,8 +5,7 @@ ghost use Rattle.std.specs.Prelude.{MatchOption};
 ghost use Rattle.std.specs.List.{All, position_or_len, remove};
 ghost use Rattle.std.specs.Option.{option_map};
 ghost use Rattle.image_cache.specs.Items.{path_of, IsKnown};
-ghost use Rattle.image_cache.specs.Items.{leaving, without_leaving, last_path, as_found};
-ghost use Rattle.image_cache.specs.Items.{HasFound};
+ghost use Rattle.image_cache.specs.Items.{leaving, without_leaving, last_path, as_found, HasFound};
 ghost use Rattle.image_cache.specs.Items.{has_item, is_at, is_fresh, item_at, without_path};
 
 use crate::cells::Cells;

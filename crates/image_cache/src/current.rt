@@ -4,8 +4,7 @@ ghost use Rattle.std.specs.Prelude.{◌≡◌, ◌&&◌, ◌||◌, not, drop};
 ghost use Rattle.std.specs.List.{list_all};
 ghost use Rattle.link_model.specs.Laws.{stamp_at};
 ghost use Rattle.place_book.specs.Keys.{is_listed};
-ghost use Rattle.image_cache.specs.Items.{IsKnown};
-ghost use Rattle.image_cache.specs.Items.{has_stamp, is_at, is_fresh};
+ghost use Rattle.image_cache.specs.Items.{IsKnown, has_stamp, is_at, is_fresh};
 
 use crate::item::Item;
 use name_tree::Snap;

@@ -1,7 +1,6 @@
 -- Addresses from the places of pieces and slots.
 use Rattle.std.specs.Prelude.{ℕ, ◌+◌, ◌-◌, ◌*◌, ◌/◌, ◌%◌, ◌^◌, ◌≤◌, List, []}
-use Rattle.std.specs.Prelude.{Option, None, slice_get}
-use Rattle.std.specs.Prelude.{slice_index, unwrap_or, if◌then◌else◌}
+use Rattle.std.specs.Prelude.{Option, None, slice_get, slice_index, unwrap_or, if◌then◌else◌}
 use Rattle.std.specs.Option.{option_map}
 use Rattle.omos_base.specs.Endian.{little_bytes}
 use Rattle.omos_model.specs.declared.mark.Target.{Target}

@@ -1,7 +1,6 @@
 -- A blueprint whose table is kept, and used again.
 use Rattle.std.proofs.Common.{◌≡◌, ◌∙◌, ℕ, ◌+◌, ◌-◌, ◌<◌, ◌%◌, Bool, true, false, cond, List, []}
-use Rattle.std.proofs.Common.{◌∷◌, Some, Result, Ok, Err}
-use Rattle.std.proofs.Common.{refl, sym, ap, subst, length, arith}
+use Rattle.std.proofs.Common.{◌∷◌, Some, Result, Ok, Err, refl, sym, ap, subst, length, arith}
 use Rattle.std.specs.Prelude.{IfSome}
 use Rattle.std.specs.Map.{lookup}
 use Rattle.indexmap.specs.IndexMap.{insert_entry}

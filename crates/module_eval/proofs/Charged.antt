@@ -1,7 +1,6 @@
 -- What the operators of pending nodes and of the blueprints read come to.
 use Rattle.std.proofs.Common.{◌≡◌, ◌∙◌, ℕ, ◌+◌, ◌≤◌, Bool, true, false, cond, List, [], ◌∷◌, ◌++◌}
-use Rattle.std.proofs.Common.{Some, Result, Ok, Err}
-use Rattle.std.proofs.Common.{ap, arith}
+use Rattle.std.proofs.Common.{Some, Result, Ok, Err, ap, arith}
 use Rattle.std.specs.Prelude.{OnOk}
 use Rattle.std.proofs.lemmas.List.Sums.{sum_by-append, sum_by-cons}
 use Rattle.omos_model.specs.Expansion.{Blueprint, source}

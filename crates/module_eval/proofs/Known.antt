@@ -1,7 +1,6 @@
 -- What is known of the blueprints that were read, as they are opened and closed.
 use Rattle.std.proofs.Common.{◌≡◌, ◌∙◌, ◌+◌, ◌≤◌, Bool, true, false, List, [], ◌∷◌, ◌++◌, Option}
-use Rattle.std.proofs.Common.{Some, None}
-use Rattle.std.proofs.Common.{refl, sym, ap, subst, arith, true≢false}
+use Rattle.std.proofs.Common.{Some, None, refl, sym, ap, subst, arith, true≢false}
 use Rattle.std.specs.Borrow.{Bor}
 use Rattle.std.specs.Map.{keys_of}
 use Rattle.std.proofs.lemmas.Bool.{and_from, and_parts}
@@ -16,8 +15,7 @@ use Rattle.omos_model.proofs.Names.{same_name-true}
 use Rattle.module_share.specs.Places.{AllNamed}
 use Rattle.module_share.proofs.Named.{WasOpened, named_so}
 use Rattle.module_eval.specs.Costs.{IsBuiltAlone, IsRead, IsReadAlone, StayBuilt, StayRead}
-use Rattle.module_eval.specs.Costs.{is_built}
-use Rattle.module_eval.specs.Costs.{operators, read_of}
+use Rattle.module_eval.specs.Costs.{is_built, operators, read_of}
 use Rattle.module_eval.specs.inside.Known.{AreKnown, is_closed, is_closed_in, is_done}
 use Rattle.module_eval.specs.declared.memo.Kept.{Kept}
 use Rattle.module_eval.proofs.Opened.{beyond, inside, outside}

@@ -1,7 +1,6 @@
 -- The blueprints that are open, where one more is or the last is closed.
 use Rattle.std.proofs.Common.{◌≡◌, ◌∙◌, Bool, true, false, ◌||◌, List, [], ◌∷◌, ◌++◌, Option, Some}
-use Rattle.std.proofs.Common.{None}
-use Rattle.std.proofs.Common.{refl, sym, ap, arith, true≢false, length, length-append, take}
+use Rattle.std.proofs.Common.{None, refl, sym, ap, arith, true≢false, length, length-append, take}
 use Rattle.std.specs.Prelude.{MatchOption}
 use Rattle.std.specs.List.{list_any}
 use Rattle.std.proofs.Math.Seq.{take-append_seam}

@@ -2,8 +2,7 @@
 
 ghost use Rattle.std.specs.Prelude.{◌≡◌, ◌+◌, ◌≤◌, true, OnOk};
 ghost use Rattle.module_eval.specs.inside.Walks.{ComesBack, CountOn, GoesTo, IsCharged, MayGoOn};
-ghost use Rattle.module_eval.specs.inside.Walks.{IsThere};
-ghost use Rattle.module_eval.specs.inside.Walks.{space_of};
+ghost use Rattle.module_eval.specs.inside.Walks.{IsThere, space_of};
 
 use crate::blueprints::{visit_again, visit_first};
 use crate::memo::Found;

@@ -1,7 +1,6 @@
 -- The bytes that come from the server.
 use Rattle.std.specs.Prelude.{◌≡◌, ◌⊎◌, ℕ, ◌+◌, ◌<◌, Bool, true, false, List, ◌++◌, length, ⊤}
-use Rattle.std.specs.Prelude.{Option}
-use Rattle.std.specs.Prelude.{Result, Ok, Err}
+use Rattle.std.specs.Prelude.{Option, Result, Ok, Err}
 use Rattle.omos_base.specs.Fields.{number_at}
 use Rattle.omos_outside.specs.Stream.{Stream, Gives, IsAtEnd}
 use Rattle.stream_reads.specs.declared.exact.Unread.{Unread}

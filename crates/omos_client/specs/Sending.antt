@@ -3,8 +3,7 @@ use Rattle.std.specs.Prelude.{◌≡◌, ℕ, ◌<◌, ◌≤◌, List, [], ◌+
 use Rattle.std.specs.Prelude.{Result, Ok, Err}
 use Rattle.std.specs.Io.KnownBytes.{Appends}
 use Rattle.omos_outside.specs.Sent.{WrotePart}
-use Rattle.omos_files.specs.Files.{File, Content, content_of}
-use Rattle.omos_files.specs.Files.{FileName}
+use Rattle.omos_files.specs.Files.{File, Content, content_of, FileName}
 use Rattle.omos_wire.specs.Message.{Message, frame}
 use Rattle.omos_wire.specs.Message as message
 use Rattle.omos_client.specs.Errands.{Asked}

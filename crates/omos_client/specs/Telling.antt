@@ -2,8 +2,7 @@
 use Rattle.std.specs.Prelude.{◌≡◌, ℕ, List, Option, None, Some, ⊤}
 use Rattle.std.specs.Io.KnownBytes.{Appends}
 use Rattle.omos_outside.specs.Sent.{WrotePart}
-use Rattle.omos_files.specs.Files.{with_content}
-use Rattle.omos_files.specs.Files.{FileName}
+use Rattle.omos_files.specs.Files.{with_content, FileName}
 use Rattle.omos_files.specs.declared.files.FileWrote.{FileWrote}
 use Rattle.omos_files.specs.declared.files.FileWrote.TheVariants as wrote
 use Rattle.omos_wire.specs.Answer.{Answer}

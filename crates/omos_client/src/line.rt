@@ -4,8 +4,7 @@ ghost use Rattle.std.specs.Prelude.{◌≡◌, ◌++◌, IfOk, OnOk};
 ghost use Rattle.std.specs.List.{flat_map};
 ghost use Rattle.omos_wire.specs.Answer as answer;
 ghost use Rattle.omos_wire.specs.Read.{answer_in};
-ghost use Rattle.omos_client.specs.Lines.{counts_line, image_line, line_for, span_line};
-ghost use Rattle.omos_client.specs.Lines.{hex_word};
+ghost use Rattle.omos_client.specs.Lines.{counts_line, image_line, line_for, span_line, hex_word};
 
 use count_lines::push_count;
 use hub_store::Counts;

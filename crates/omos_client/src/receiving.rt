@@ -4,8 +4,7 @@ ghost use Rattle.std.specs.Prelude.{◌≡◌, ◌↔◌, ◌≤◌, Err, IsTrue
 ghost use Rattle.omos_outside.specs.Faults.{Rose};
 ghost use Rattle.omos_wire.specs.Answer as reply;
 ghost use Rattle.omos_wire.specs.Read.{answer_in};
-ghost use Rattle.omos_client.specs.Replies.{Hears, Receives, ReceivesBye};
-ghost use Rattle.omos_client.specs.Replies.{cause_of, may_have};
+ghost use Rattle.omos_client.specs.Replies.{Hears, Receives, ReceivesBye, cause_of, may_have};
 
 use crate::errand::Command;
 use omos_base::{Fault, u32_at};

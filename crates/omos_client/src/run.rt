@@ -4,8 +4,7 @@ ghost use Rattle.std.specs.Prelude.{◌≡◌, ◌↔◌, ◌⊎◌, ◌≤◌, 
 ghost use Rattle.std.specs.Prelude.{is_some, length, map, string_bytes};
 ghost use Rattle.omos_outside.specs.Faults.{Rose};
 ghost use Rattle.omos_client.specs.Errands.{Asked, asked_by, asked_of};
-ghost use Rattle.omos_client.specs.Runs.{outside};
-ghost use Rattle.omos_client.specs.Runs.{FollowsSending, RanAsked, RunsTo};
+ghost use Rattle.omos_client.specs.Runs.{outside, FollowsSending, RanAsked, RunsTo};
 ghost use Rattle.omos_client.specs.Ends.{client_status};
 
 use crate::ending::Ending;

@@ -2,8 +2,7 @@
 
 ghost use Rattle.std.specs.Prelude.{◌≡◌, ◌≤◌, ◌++◌, Err, IfOk, length};
 ghost use Rattle.omos_outside.specs.Faults.{Rose};
-ghost use Rattle.omos_wire.specs.Message.{frame, message_of};
-ghost use Rattle.omos_wire.specs.Message.{HasFrame};
+ghost use Rattle.omos_wire.specs.Message.{frame, message_of, HasFrame};
 ghost use Rattle.omos_wire.specs.Message as message;
 ghost use Rattle.omos_client.specs.Errands.{asked_of};
 ghost use Rattle.omos_client.specs.Sending.{Brings, BringsWith, Sends, message_by};

@@ -3,8 +3,7 @@
 ghost use Rattle.std.specs.Prelude.{◌≡◌, ◌≤◌};
 ghost use Rattle.omos_outside.specs.Faults.{Rose};
 ghost use Rattle.omos_wire.specs.Read.{answer_in};
-ghost use Rattle.omos_client.specs.Telling.{EndsBy, Keeps};
-ghost use Rattle.omos_client.specs.Telling.{TellsReply};
+ghost use Rattle.omos_client.specs.Telling.{EndsBy, Keeps, TellsReply};
 
 use crate::ending::Ending;
 use crate::line::line_for;

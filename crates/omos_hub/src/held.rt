@@ -8,8 +8,7 @@ ghost use Rattle.turn_lock.specs.Steps.{steps_by};
 ghost use Rattle.hub_store.specs.Links.{AskGives, FinishGives, MayFinish, PlaceGives};
 ghost use Rattle.hub_store.specs.Parts.{IsTicket};
 ghost use Rattle.hub_store.specs.Requests.{FlushGives, MissedGives, PlacesGives, StatsGives};
-ghost use Rattle.omos_hub.specs.Calls.{PublishGives};
-ghost use Rattle.omos_hub.specs.Calls.{PlansTicket};
+ghost use Rattle.omos_hub.specs.Calls.{PublishGives, PlansTicket};
 ghost use Rattle.omos_hub.specs.Passes.{Turned};
 
 use crate::publishing::Publishing;

@@ -16,8 +16,7 @@ use Rattle.refusal_lines.specs.declared.refused.Refused.TheVariants as why
 use Rattle.omos_hub.specs.Standing.{is_miss, misses}
 use Rattle.omos_session.specs.Talk.{FaultsObject, FaultsText, FlushTold, IsMiss, IsMissed, IsTold}
 use Rattle.omos_session.specs.Talk.{IsTurn, LinkTold, PathTold, PlacesTold, PutTold, Row}
-use Rattle.omos_session.specs.Talk.{SaysObject, SaysText, StatsTold, Told, turns_of}
-use Rattle.omos_session.specs.Talk.{FindsNoRoom}
+use Rattle.omos_session.specs.Talk.{SaysObject, SaysText, StatsTold, Told, turns_of, FindsNoRoom}
 use Rattle.omos_hub.specs.Turns.{Turn}
 use Rattle.omos_session.proofs.Dues.{dues_are_no_miss}
 use Rattle.omos_session.proofs.Moves.{misses-append}

@@ -5,8 +5,7 @@ use Rattle.std.proofs.lemmas.List.{length-map}
 use Rattle.history_book.specs.declared.step.Step.{Step}
 use Rattle.omos_outside.specs.Stream.{Stream}
 use Rattle.turn_lock.specs.Knowledge.{Knowledge, TableId}
-use Rattle.omos_hub.specs.Standing.{AtTurn, CanCross, Rises, Standing, Went, seen_by}
-use Rattle.omos_hub.specs.Standing.{PassLine}
+use Rattle.omos_hub.specs.Standing.{AtTurn, CanCross, Rises, Standing, Went, seen_by, PassLine}
 use Rattle.omos_hub.specs.Turns.{Turn, lengths}
 use Rattle.hub_store.specs.Parts.{StoreParts}
 use Rattle.omos_session.specs.Session.{IsSession}

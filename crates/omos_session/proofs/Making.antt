@@ -12,8 +12,7 @@ use Rattle.omos_model.specs.declared.placement.Place.{Place}
 use Rattle.omos_model.specs.declared.placement.Place.TheVariants as place
 use Rattle.history_book.specs.Legal.{HasPlace, IsLegal, IsRefusal}
 use Rattle.history_book.specs.declared.step.Step.{Step}
-use Rattle.hub_store.specs.Links.{IsPlanFor, MayFinish, PlaceGives, placing}
-use Rattle.hub_store.specs.Links.{place_for_ticket}
+use Rattle.hub_store.specs.Links.{IsPlanFor, MayFinish, PlaceGives, placing, place_for_ticket}
 use Rattle.hub_store.specs.Parts.{IsTicket, TicketParts, asking_of}
 use Rattle.hub_store.specs.declared.reply.PlaceReply.{PlaceReply}
 use Rattle.hub_store.specs.declared.reply.PlaceReply.TheVariants as placed

@@ -23,19 +23,16 @@ use Rattle.history_book.specs.declared.step.Note.{Note}
 use Rattle.history_book.specs.declared.step.Note.TheVariants as note
 use Rattle.history_book.specs.declared.step.Step.{Step}
 use Rattle.history_book.specs.declared.step.Step.TheVariants.{Missed, Asked, Answered, Flushed}
-use Rattle.hub_store.specs.Links.{AskGives, FinishGives, MayFinish, next_ticket}
-use Rattle.hub_store.specs.Links.{note_of_outcome}
+use Rattle.hub_store.specs.Links.{AskGives, FinishGives, MayFinish, next_ticket, note_of_outcome}
 use Rattle.hub_store.specs.Parts.{Appended, StoreParts, TicketParts, store_of}
 use Rattle.hub_store.specs.Parts as hub
 use Rattle.hub_store.specs.declared.reply.AskReply.TheVariants as ask
 use Rattle.hub_store.specs.declared.reply.Outcome.{Outcome}
 use Rattle.hub_store.specs.declared.reply.Outcome.TheVariants as outcome
-use Rattle.hub_store.specs.Requests.{flushing}
-use Rattle.hub_store.specs.Requests.{placements_of}
+use Rattle.hub_store.specs.Requests.{flushing, placements_of}
 use Rattle.omos_model.specs.Places.{is_of}
 use Rattle.omos_model.specs.declared.placement.Placement.{Placement}
-use Rattle.omos_wire.specs.Answer.{Answer, IsSendable}
-use Rattle.omos_wire.specs.Answer.{wire_span}
+use Rattle.omos_wire.specs.Answer.{Answer, IsSendable, wire_span}
 use Rattle.refusal_lines.specs.declared.refused.Refused.{Refused}
 use Rattle.omos_wire.specs.Answer as answer
 use Rattle.refusal_lines.specs.declared.refused.Refused.TheVariants as why
@@ -43,10 +40,8 @@ use Rattle.omos_session.specs.inside.Parts.{Concludes, Goes, MissTold, PublishTo
 use Rattle.omos_session.specs.inside.Parts.{ServesBy}
 use Rattle.omos_hub.specs.Standing.{AtTurn, Standing, Went, is_miss, misses, store_at}
 use Rattle.omos_session.specs.Talk.{FlushTold, IsBetween, IsMiss, IsMissed, LinkTold, PathTold}
-use Rattle.omos_session.specs.Talk.{PutTold}
-use Rattle.omos_session.specs.Talk.{FindsNoRoom}
-use Rattle.omos_hub.specs.Turns.{IsDue}
-use Rattle.omos_hub.specs.Turns.{Turn, turn_of, IsOf}
+use Rattle.omos_session.specs.Talk.{PutTold, FindsNoRoom}
+use Rattle.omos_hub.specs.Turns.{IsDue, Turn, turn_of, IsOf}
 use Rattle.omos_session.proofs.Dues.{dues_are_due, dues_are_of, dues_are_no_miss}
 use Rattle.omos_session.proofs.Going.{went_gate, went_none, went_once, went_then}
 use Rattle.omos_session.proofs.Moves.{misses-append}

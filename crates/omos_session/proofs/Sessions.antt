@@ -9,8 +9,7 @@ use Rattle.history_book.specs.Legal.{IsLegal}
 use Rattle.omos_outside.proofs.Known.{Appends-then, Gives-then, Gives-nil}
 use Rattle.omos_wire.specs.Answer.{Answer, reply_frame}
 use Rattle.omos_wire.specs.Found.{Took}
-use Rattle.omos_wire.specs.Message.{Message, End, frame}
-use Rattle.omos_wire.specs.Message.{HasFrame}
+use Rattle.omos_wire.specs.Message.{Message, End, frame, HasFrame}
 use Rattle.omos_outside.specs.Sent.{WrotePart}
 use Rattle.omos_wire.specs.Sight.{sight, Short}
 use Rattle.omos_wire.specs.Stream.{Starts, Held}
@@ -18,8 +17,7 @@ use Rattle.omos_session.specs.inside.Parts.{Replied, Serves}
 use Rattle.omos_session.specs.Session.{IsSession, frames, reply_bytes}
 use Rattle.omos_session.specs.inside.Parts.{Going}
 use Rattle.omos_hub.specs.Standing.{Standing, Went, misses}
-use Rattle.omos_session.specs.Talk.{IsTold, Row, turns_of}
-use Rattle.omos_session.specs.Talk.{row_with}
+use Rattle.omos_session.specs.Talk.{IsTold, Row, turns_of, row_with}
 use Rattle.omos_hub.specs.Turns.{Turn}
 use Rattle.omos_session.specs.declared.session.SessionEnd.TheVariants as ending
 use Rattle.omos_session.proofs.Going.{went_none, went_then}

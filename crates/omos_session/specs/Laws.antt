@@ -3,8 +3,7 @@ use Rattle.std.specs.Prelude.{◌≡◌, ◌==◌, ◌⊎◌, ℕ, ◌^◌, ◌�
 use Rattle.std.specs.Prelude.{filter, Option, Some}
 use Rattle.std.specs.List.{AllByRecursion, flat_map}
 use Rattle.omos_outside.specs.Stream.{Stream}
-use Rattle.omos_wire.specs.Message.{End, Message, frame}
-use Rattle.omos_wire.specs.Message.{HasFrame}
+use Rattle.omos_wire.specs.Message.{End, Message, frame, HasFrame}
 use Rattle.omos_hub.specs.Standing.{Standing, misses}
 use Rattle.omos_session.specs.declared.session.SessionEnd.{SessionEnd}
 use Rattle.omos_session.specs.declared.session.SessionEnd.TheVariants as ending

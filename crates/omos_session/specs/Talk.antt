@@ -12,8 +12,7 @@ use Rattle.link_model.specs.Answer.{answer}
 use Rattle.bp_tree.specs.Texts.{IsText}
 use Rattle.bp_tree.specs.TextFaults.{IsTextFault}
 use Rattle.history_book.specs.Told.{kept_bytes, namespace_in, version_after}
-use Rattle.hub_store.specs.Requests.{counts_of}
-use Rattle.hub_store.specs.Requests.{placements_of}
+use Rattle.hub_store.specs.Requests.{counts_of, placements_of}
 use Rattle.history_book.specs.Legal.{max_kept}
 use Rattle.history_book.specs.Room.{HasRoom}
 use Rattle.history_book.specs.declared.step.Step.{Step}
@@ -24,8 +23,7 @@ use Rattle.history_book.specs.declared.step.Note.TheVariants as note
 use Rattle.history_book.specs.declared.step.Look.TheVariants as look
 use Rattle.omos_wire.specs.Message.{Message}
 use Rattle.omos_wire.specs.Message as message
-use Rattle.omos_wire.specs.Answer.{Answer}
-use Rattle.omos_wire.specs.Answer.{wire_span}
+use Rattle.omos_wire.specs.Answer.{Answer, wire_span}
 use Rattle.omos_wire.specs.Answer as reply
 use Rattle.refusal_lines.specs.declared.refused.Refused.{Refused}
 use Rattle.refusal_lines.specs.declared.refused.Refused.TheVariants as why

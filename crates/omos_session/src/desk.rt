@@ -7,8 +7,7 @@ ghost use Rattle.hub_store.specs.Links.{MayFinish};
 ghost use Rattle.hub_store.specs.Parts.{IsTicket};
 ghost use Rattle.omos_hub.specs.Standing.{CanCross, CanTurn, Standing};
 ghost use Rattle.omos_hub.specs.Calls.{Asks, Crosses, Finishes, Flushes, Lists, Misses};
-ghost use Rattle.omos_hub.specs.Calls.{PlacesAt, Publishes};
-ghost use Rattle.omos_hub.specs.Calls.{CountsAtTurn, PlansTicket};
+ghost use Rattle.omos_hub.specs.Calls.{PlacesAt, Publishes, CountsAtTurn, PlansTicket};
 
 use hub_store::{
     AskReply, FlushReply, Noted, Outcome, PlaceReply, PlacesReply, StatsReply, Ticket,

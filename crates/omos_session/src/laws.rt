@@ -1,7 +1,6 @@
 //! Laws of turns, each the contract of a function that does nothing.
 
-ghost use Rattle.omos_session.specs.Laws.{AloneLaw, ClimbLaw, CompleteLaw, FewLaw};
-ghost use Rattle.omos_session.specs.Laws.{MissLaw, OwnLaw};
+ghost use Rattle.omos_session.specs.Laws.{AloneLaw, ClimbLaw, CompleteLaw, FewLaw, MissLaw, OwnLaw};
 ghost use Rattle.omos_session.specs.Laws.{TurnsStayLaw};
 
 /// The lengths that the record had at a seat's turns never fall, and lie between its length before

@@ -5,8 +5,7 @@ ghost use Rattle.omos_outside.specs.Faults.{Rose};
 ghost use Rattle.omos_wire.specs.Message.{End, message_of};
 ghost use Rattle.omos_session.specs.inside.Parts.{IsServed};
 ghost use Rattle.omos_session.specs.Session.{IsSession};
-ghost use Rattle.omos_session.specs.inside.Parts.{ending_of};
-ghost use Rattle.omos_session.specs.inside.Parts.{IsPieceRead};
+ghost use Rattle.omos_session.specs.inside.Parts.{ending_of, IsPieceRead};
 ghost use Rattle.omos_hub.specs.Standing.{CanCross, CanTurn};
 
 use crate::answering::answer;

@@ -13,8 +13,7 @@ use Rattle.std.proofs.Common.{◌⊎◌, inl, inr}
 use Rattle.std.specs.List.{AllByRecursion, flat_map}
 use Rattle.omos_wire.specs.declared.request.FrameCause.{FrameCause}
 use Rattle.omos_wire.specs.Message.{Message, PutObject, PutBlueprint, Link, Places, Stats, Flush}
-use Rattle.omos_wire.specs.Message.{End, body, frame}
-use Rattle.omos_wire.specs.Message.{HasFrame}
+use Rattle.omos_wire.specs.Message.{End, body, frame, HasFrame}
 use Rattle.omos_wire.specs.Fielded.{field}
 use Rattle.omos_wire.specs.Stream.{Cut, Rest, Waiting, Stuck}
 use Rattle.omos_wire.specs.Sight.{Whole, Short, Bad, message, sight, with_size, with_kind}

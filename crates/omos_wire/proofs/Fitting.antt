@@ -28,8 +28,7 @@ use Rattle.refusal_lines.specs.Codes.{path_row, row_of, text_row}
 use Rattle.omos_wire.specs.Fielded.{field}
 use Rattle.omos_wire.specs.inside.Reading.{FitsAny, FitsCode, FitsForms, FitsShape, IsReply}
 use Rattle.omos_wire.specs.inside.Reading.{form_of, link_forms, object_forms, path_forms, shape_at}
-use Rattle.omos_wire.specs.inside.Reading.{text_forms, text_size}
-use Rattle.omos_wire.specs.inside.Reading.{IsTextField}
+use Rattle.omos_wire.specs.inside.Reading.{text_forms, text_size, IsTextField}
 use Rattle.refusal_lines.specs.declared.refused.Refused.{Refused as Reason}
 use Rattle.refusal_lines.specs.declared.refused.Refused.TheVariants as code
 use Rattle.omos_wire.specs.declared.span.Span.{Span}

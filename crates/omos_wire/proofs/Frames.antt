@@ -16,8 +16,7 @@ use Rattle.omos_wire.specs.Sight.{Whole, Short, Bad, message, sight, with_size, 
 use Rattle.omos_wire.specs.Sight.{with_path}
 use Rattle.omos_wire.specs.Found.{IsFramed, Sees}
 use Rattle.omos_wire.specs.Sight.{sight_of}
-use Rattle.omos_wire.specs.Message.{message_of}
-use Rattle.omos_wire.specs.Message.{HasFrame, path_of_message}
+use Rattle.omos_wire.specs.Message.{message_of, HasFrame, path_of_message}
 use Rattle.omos_wire.specs.declared.look.Look.{Look}
 use Rattle.omos_wire.specs.declared.look.Look.TheVariants as look
 use Rattle.omos_wire.proofs.Numbers.{IsBytes, little_two, little_four}

@@ -23,8 +23,7 @@ use Rattle.refusal_lines.specs.declared.refused.Refused.{Refused as Reason}
 use Rattle.refusal_lines.specs.declared.refused.Refused.TheVariants as code
 use Rattle.omos_wire.specs.Answer.{Answer, HasValues, IsReplyFrame, Published, Image, Refused}
 use Rattle.omos_wire.specs.Answer.{Places, Counts, Flushed, Bye, NoMemory, Full, KeptFull, flag}
-use Rattle.omos_wire.specs.Answer.{payload, reply_frame, span_bytes}
-use Rattle.omos_wire.specs.Answer.{IsCodedSpan}
+use Rattle.omos_wire.specs.Answer.{payload, reply_frame, span_bytes, IsCodedSpan}
 use Rattle.refusal_lines.specs.Codes.{IsField}
 use Rattle.omos_wire.specs.Fielded.{field, field_bytes}
 use Rattle.omos_wire.specs.inside.Reading.{Form, form_of, link_forms, object_forms, path_forms}

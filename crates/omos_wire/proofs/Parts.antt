@@ -6,8 +6,7 @@ use Rattle.std.proofs.lemmas.List.{length-map, take_all}
 use Rattle.std.proofs.Math.Seq.{take-add}
 use Rattle.std.specs.List.{flat_map}
 use Rattle.std.specs.Io.KnownBytes.{Appends}
-use Rattle.omos_wire.specs.Answer.{Places, longest_reply, reply_frame, span_bytes}
-use Rattle.omos_wire.specs.Answer.{wire_span}
+use Rattle.omos_wire.specs.Answer.{Places, longest_reply, reply_frame, span_bytes, wire_span}
 use Rattle.omos_base.specs.Endian.{little_bytes}
 use Rattle.omos_model.specs.declared.placement.Placement.{Placement}
 use Rattle.omos_outside.specs.Sent.{WrotePart}

@@ -1,8 +1,7 @@
 -- How long replies are.
 use Rattle.std.proofs.Common.{◌+◌, ◌*◌, ◌≤◌, List, length, refl, arith}
 use Rattle.std.specs.List.{AllByRecursion}
-use Rattle.omos_wire.specs.Answer.{IsReplyFrame, Places, longest_reply, reply_frame}
-use Rattle.omos_wire.specs.Answer.{IsCodedSpan}
+use Rattle.omos_wire.specs.Answer.{IsReplyFrame, Places, longest_reply, reply_frame, IsCodedSpan}
 use Rattle.omos_wire.specs.declared.span.Span.{Span}
 use Rattle.omos_wire.proofs.Fitting.{length-spans}
 

@@ -1,7 +1,6 @@
 -- What a decoder has next.
 use Rattle.std.specs.Prelude.{◌≡◌, ℕ, ◌+◌, ◌<◌, List, ◌++◌, length, drop}
-use Rattle.omos_wire.specs.Message.{Message, message_of, frame}
-use Rattle.omos_wire.specs.Message.{HasFrame}
+use Rattle.omos_wire.specs.Message.{Message, message_of, frame, HasFrame}
 use Rattle.omos_wire.specs.Sight.{Short, Bad, sight}
 use Rattle.omos_wire.specs.Stream.{Held}
 use Rattle.omos_wire.specs.declared.look.Look.{Look}

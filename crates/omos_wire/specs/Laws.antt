@@ -1,8 +1,7 @@
 -- Laws of frames and streams.
 use Rattle.std.specs.Prelude.{◌≡◌, ℕ, List, [], ◌++◌, length}
 use Rattle.omos_wire.specs.Answer.{Answer, IsReplyFrame}
-use Rattle.omos_wire.specs.Message.{Message, frame}
-use Rattle.omos_wire.specs.Message.{HasFrame}
+use Rattle.omos_wire.specs.Message.{Message, frame, HasFrame}
 use Rattle.omos_wire.specs.Sight.{Whole, Bad, sight}
 use Rattle.omos_wire.specs.Stream.{Cut, Rest}
 use Rattle.omos_wire.specs.declared.request.FrameCause.{FrameCause}

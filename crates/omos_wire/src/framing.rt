@@ -2,8 +2,7 @@
 
 ghost use Rattle.std.specs.Prelude.{◌≡◌, ◌+◌, ◌<◌, ◌≤◌, ◌++◌, ◌∷◌, length, IfOk};
 ghost use Rattle.omos_base.specs.Endian.{little_bytes};
-ghost use Rattle.omos_wire.specs.Message.{frame, message_of};
-ghost use Rattle.omos_wire.specs.Message.{HasFrame};
+ghost use Rattle.omos_wire.specs.Message.{frame, message_of, HasFrame};
 ghost use Rattle.omos_wire.specs.Fielded.{field};
 
 use crate::request::Request;

@@ -5,10 +5,8 @@ ghost use Rattle.std.specs.List.{flat_map};
 ghost use Rattle.arrayvec.specs.ArrayVec.{array_vec_len};
 ghost use Rattle.omos_base.specs.Endian.{little_bytes};
 ghost use Rattle.omos_wire.specs.Answer.{IsSendable, answer_of, flag, reply_frame};
-ghost use Rattle.omos_wire.specs.Answer.{longest_reply, span_bytes};
-ghost use Rattle.omos_wire.specs.Answer.{nine_counts, wire_span};
-ghost use Rattle.omos_wire.specs.inside.Heads.{bulk};
-ghost use Rattle.omos_wire.specs.inside.Heads.{HasFixedWidth};
+ghost use Rattle.omos_wire.specs.Answer.{longest_reply, span_bytes, nine_counts, wire_span};
+ghost use Rattle.omos_wire.specs.inside.Heads.{bulk, HasFixedWidth};
 
 use crate::reply::Reply;
 use arrayvec::ArrayVec;

@@ -1,8 +1,7 @@
 //! Replies joined to one piece, so that one write sends them.
 
 ghost use Rattle.std.specs.Prelude.{◌≡◌, ◌+◌, ◌*◌, ◌≤◌, ◌++◌, length, map, true};
-ghost use Rattle.omos_wire.specs.Answer.{Places, longest_reply, reply_frame, span_bytes};
-ghost use Rattle.omos_wire.specs.Answer.{wire_span};
+ghost use Rattle.omos_wire.specs.Answer.{Places, longest_reply, reply_frame, span_bytes, wire_span};
 
 use crate::heads::{places_head, put_span};
 use arrayvec::ArrayVec;

@@ -1,7 +1,6 @@
 //! Laws of frames and streams, each the contract of a function that does nothing.
 
-ghost use Rattle.omos_wire.specs.Laws.{ApartLaw, BadLaw, ReplyLaw, SeenLaw};
-ghost use Rattle.omos_wire.specs.Laws.{OneCutLaw};
+ghost use Rattle.omos_wire.specs.Laws.{ApartLaw, BadLaw, ReplyLaw, SeenLaw, OneCutLaw};
 
 /// A frame is seen as the frame of its request, whatever follows it.
 pub fn frames_are_seen()

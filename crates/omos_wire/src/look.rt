@@ -3,8 +3,7 @@
 ghost use Rattle.std.specs.Prelude.{◌≡◌, ◌≤◌, length};
 ghost use Rattle.omos_wire.specs.Found.{Sees};
 ghost use Rattle.omos_wire.specs.Message.{message_of};
-ghost use Rattle.omos_wire.specs.Sight.{sight, sight_of, message, with_size, with_kind};
-ghost use Rattle.omos_wire.specs.Sight.{with_path};
+ghost use Rattle.omos_wire.specs.Sight.{sight, sight_of, message, with_size, with_kind, with_path};
 ghost use Rattle.omos_wire.specs.Sight.{IsLookWithin};
 
 use crate::request::{FrameCause, Request};

@@ -2,8 +2,7 @@
 
 ghost use Rattle.std.specs.Prelude.{◌+◌, ◌*◌, ◌^◌, ◌<◌, ◌≤◌, length, map};
 ghost use Rattle.std.specs.List.{AllByRecursion};
-ghost use Rattle.omos_wire.specs.Answer.{IsSendable};
-ghost use Rattle.omos_wire.specs.Answer.{answer_of, longest_reply};
+ghost use Rattle.omos_wire.specs.Answer.{IsSendable, answer_of, longest_reply};
 ghost use Rattle.omos_wire.specs.Answer.{IsCodedSpan, IsReadBack, wire_span};
 ghost use Rattle.omos_wire.specs.Answer as answer;
 

@@ -4,8 +4,7 @@ ghost use Rattle.std.specs.Prelude.{MatchOption};
 ghost use Rattle.omos_base.specs.Fault.{MatchFault};
 ghost use Rattle.refusal_lines.specs.Codes.{link_row, object_row, path_row, row_of, text_row};
 ghost use Rattle.omos_wire.specs.inside.Reading.{FitsAny, FitsCode, link_forms, object_forms};
-ghost use Rattle.omos_wire.specs.inside.Reading.{path_forms};
-ghost use Rattle.omos_wire.specs.inside.Reading.{text_forms};
+ghost use Rattle.omos_wire.specs.inside.Reading.{path_forms, text_forms};
 ghost use Rattle.omos_wire.specs.inside.Taking.{IsCoded};
 
 use crate::fields::{

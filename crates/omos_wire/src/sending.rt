@@ -4,8 +4,7 @@ ghost use Rattle.std.specs.Prelude.{◌≡◌, ◌+◌, ◌*◌, ◌^◌, ◌<�
 ghost use Rattle.std.specs.List.{flat_map};
 ghost use Rattle.omos_outside.specs.Faults.{Rose};
 ghost use Rattle.omos_wire.specs.Answer.{IsSendable, answer_of, reply_frame, span_bytes};
-ghost use Rattle.omos_wire.specs.Answer.{longest_reply, Places};
-ghost use Rattle.omos_wire.specs.Answer.{wire_span};
+ghost use Rattle.omos_wire.specs.Answer.{longest_reply, Places, wire_span};
 ghost use Rattle.omos_wire.specs.Answer as answer;
 ghost use Rattle.omos_outside.specs.Sent.{Wrote};
 ghost use Rattle.refusal_lines.specs.Codes.{coded_line, row_of};

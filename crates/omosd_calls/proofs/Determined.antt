@@ -14,8 +14,7 @@ use Rattle.omosd_calls.specs.declared.ending.Ending.TheVariants.{SinkFailed, NoM
 use Rattle.omosd_calls.specs.Input.{IsInput, ToldInput}
 use Rattle.omosd_calls.specs.Output.{ToldOutput}
 use Rattle.omosd_calls.specs.Once.{Answered, IsOutput}
-use Rattle.omosd_calls.specs.Lone.{cause_line}
-use Rattle.omosd_calls.specs.Lone.{IsLoneImage, IsRefusalLine}
+use Rattle.omosd_calls.specs.Lone.{cause_line, IsLoneImage, IsRefusalLine}
 
 -- a file has one answer, so no two outputs
 same_image : (file a b : List ℕ) → IsLoneImage file a → IsLoneImage file b → a ≡ b

@@ -1,6 +1,5 @@
 -- The answer for an object alone.
-use Rattle.std.proofs.Common.{◌≡◌, ◌≢◌, ℕ, List, [], Option, Some, None, Result, Ok, Err}
-use Rattle.std.proofs.Common.{ap, ◌∙◌}
+use Rattle.std.proofs.Common.{◌≡◌, ◌≢◌, ℕ, List, [], Option, Some, None, Result, Ok, Err, ap, ◌∙◌}
 use Rattle.omos_model.specs.FragmentParts.{FragmentParts}
 use Rattle.omos_model.specs.FragmentOf.{fragment_of}
 use Rattle.omos_model.specs.declared.entry.Entry.TheVariants as entry
@@ -11,8 +10,7 @@ use Rattle.link_model.specs.Answer.{answer, answer_of_plan}
 use Rattle.link_model.specs.ImageBytes.{image_bytes, overflow, file_bytes, unless_overflow}
 use Rattle.link_model.specs.Module.{alone}
 use Rattle.link_model.specs.Plan.{Plan, plan_of}
-use Rattle.omosd_calls.specs.Lone.{lone_base, lone_path, unless_link, unless_object}
-use Rattle.omosd_calls.specs.Lone.{IsLoneImage}
+use Rattle.omosd_calls.specs.Lone.{lone_base, lone_path, unless_link, unless_object, IsLoneImage}
 
 -- an image has bytes: those of its header
 bytes-some : (plan : Plan) (base : ℕ) (image : List ℕ) → image_bytes plan base ≡ Ok image

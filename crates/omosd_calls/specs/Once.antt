@@ -5,8 +5,7 @@ use Rattle.omosd_calls.specs.declared.ending.Ending.{Ending}
 use Rattle.omosd_calls.specs.declared.ending.Ending.TheVariants.{Done, Refused, Usage, SourceFailed}
 use Rattle.omosd_calls.specs.declared.ending.Ending.TheVariants.{SinkFailed, NoMemory}
 use Rattle.omosd_calls.specs.declared.cause.Cause.{Cause}
-use Rattle.omosd_calls.specs.Lone.{cause_line}
-use Rattle.omosd_calls.specs.Lone.{IsLoneImage, IsRefusalLine}
+use Rattle.omosd_calls.specs.Lone.{cause_line, IsLoneImage, IsRefusalLine}
 use Rattle.omos_outside.specs.Sent.{WrotePart}
 use Rattle.omosd_calls.specs.Output.{HasWritten, HasWrittenPart}
 

@@ -8,19 +8,16 @@ use Rattle.std.proofs.Math.Seq.{drop-append_seam}
 use Rattle.turn_lock.specs.Steps.{Has, GoesOn, AllBelow, steps_by}
 use Rattle.turn_lock.specs.Knowledge.{TableId, Knowledge, numbers}
 use Rattle.omos_outside.specs.Links.{DoorState, GivenBack}
-use Rattle.worker_line.specs.Drawn.{Line, Drawn, DrewOn}
-use Rattle.worker_line.specs.Drawn.{new_seat}
+use Rattle.worker_line.specs.Drawn.{Line, Drawn, DrewOn, new_seat}
 use Rattle.worker_line.specs.declared.workers.Seated.{Seated}
 use Rattle.history_book.specs.declared.step.Step.{Step}
 use Rattle.hub_store.specs.Parts.{StoreParts}
 use Rattle.history_book.specs.Steps.{seat_of}
 use Rattle.history_book.specs.Legal.{IsLegal}
-use Rattle.omos_hub.specs.Passes.{AreAll, HasAll, new_pass, joined_at}
-use Rattle.omos_hub.specs.Passes.{IsPassOf}
+use Rattle.omos_hub.specs.Passes.{AreAll, HasAll, new_pass, joined_at, IsPassOf}
 use Rattle.omosd_slots.specs.Visits.{WasServed}
 use Rattle.omosd_slots.specs.Fits.{WorkerState, FitsHub, HasBack, kept_from, kept_of, told_count}
-use Rattle.omosd_slots.specs.Fits.{told_before}
-use Rattle.omosd_slots.specs.Fits.{GoesOnOrStops, IsWorkerOf, one_where}
+use Rattle.omosd_slots.specs.Fits.{told_before, GoesOnOrStops, IsWorkerOf, one_where}
 use Rattle.omosd_slots.proofs.Linked.{kept_is}
 use Rattle.omosd_slots.specs.Slots.{SlotState, new_worker, HaveRun, slot_of, pass_of, draws_of}
 use Rattle.omosd_slots.specs.Slots.{links_of, failed_of, got_of, is_stopped, ServedBack, AreServed}

@@ -16,8 +16,7 @@ use Rattle.omos_session.specs.declared.session.SessionEnd.{SessionEnd}
 use Rattle.omos_session.specs.declared.session.SessionEnd.TheVariants as ending
 use Rattle.omosd_slots.proofs.Visited.{served_more, visit_of, cause_of}
 use Rattle.omosd_slots.specs.Fits.{WorkerState, FitsFrom, HasBack, kept_from, kept_of, told_count}
-use Rattle.omosd_slots.specs.Fits.{told_before}
-use Rattle.omosd_slots.specs.Fits.{GoesOnOrStops, IsWorkerOf, one_where}
+use Rattle.omosd_slots.specs.Fits.{told_before, GoesOnOrStops, IsWorkerOf, one_where}
 
 module _ (hub : TableId) (p p' : Knowledge Step) (x y : ℕ) (told told' : Option Stream)
     (holds holds' : Option (List ℕ)) (sf sf' kf kf' : ℕ) (end : SessionEnd) where

@@ -3,8 +3,7 @@ use Rattle.std.proofs.Common.{◌≡◌, ℕ, false, List, [], ◌∷◌, All, a
 use Rattle.std.proofs.lemmas.List.Elements.{All-head, All-tail}
 use Rattle.omos_outside.specs.Links.{DoorState}
 use Rattle.omosd_slots.specs.declared.slot.Slot.{Slot}
-use Rattle.omosd_slots.specs.Slots.{AreOpen}
-use Rattle.omosd_slots.specs.Slots.{IsOpenSlot, slot_states}
+use Rattle.omosd_slots.specs.Slots.{AreOpen, IsOpenSlot, slot_states}
 
 module _ {D G : Type 0} (state : D → DoorState) (crossings : G → ℕ) where
   abbrev pub IsNew : Slot D G → Type 0

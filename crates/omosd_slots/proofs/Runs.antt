@@ -5,8 +5,7 @@ use Rattle.std.proofs.Common.{sym, ap, ◌∙◌, subst, arith, append_assoc, ap
 use native.Mathlib.Numerals.{unary_clauses}
 use Rattle.turn_lock.specs.Knowledge.{TableId, Knowledge}
 use Rattle.omos_outside.specs.Links.{DoorState, GivenBack}
-use Rattle.worker_line.specs.Drawn.{Line, Drawn, DrewOn, IsNew}
-use Rattle.worker_line.specs.Drawn.{new_seat}
+use Rattle.worker_line.specs.Drawn.{Line, Drawn, DrewOn, IsNew, new_seat}
 use Rattle.worker_line.specs.Served.{WasRun}
 use Rattle.worker_line.specs.declared.workers.Seated.{Seated}
 use Rattle.turn_lock.specs.Steps.{steps_by}
@@ -17,8 +16,7 @@ use Rattle.history_book.specs.Legal.{IsLegal}
 use Rattle.omos_hub.specs.Passes.{new_pass}
 use Rattle.omosd_slots.proofs.Visited.{served_none}
 use Rattle.omosd_slots.specs.declared.slot.Slot.{Slot}
-use Rattle.omosd_slots.specs.Fits.{WorkerState, FitsHub, HasBack, kept_of}
-use Rattle.omosd_slots.specs.Fits.{IsWorkerOf}
+use Rattle.omosd_slots.specs.Fits.{WorkerState, FitsHub, HasBack, kept_of, IsWorkerOf}
 use Rattle.omosd_slots.specs.Slots.{SlotState, AreOpen, new_worker, seated_at, seated_from, HaveRun}
 use Rattle.omosd_slots.specs.Slots.{HasRunSlot, IsOpenSlot, slot_states}
 

@@ -2,8 +2,7 @@
 use Rattle.std.proofs.Common.{◌≡◌, ℕ, ◌+◌, ◌<◌, ◌≤◌, List, [], ◌∷◌, ◌++◌, length, get_or, All, refl}
 use Rattle.std.proofs.Common.{sym, ap, ◌∙◌, subst, arith, length-append}
 use native.Mathlib.Numerals.{unary_clauses}
-use Rattle.worker_line.specs.Drawn.{Line, Drawn}
-use Rattle.worker_line.specs.Drawn.{seat_joined}
+use Rattle.worker_line.specs.Drawn.{Line, Drawn, seat_joined}
 use Rattle.omosd_slots.specs.Slots.{TellAll, got_of}
 use Rattle.omosd_slots.specs.Slots.{DrawsFrom, IsSeatTold, seat_missed, seat_parts, slots_total}
 

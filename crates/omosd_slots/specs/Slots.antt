@@ -4,8 +4,7 @@ use Rattle.std.specs.Prelude.{List, [], ◌∷◌, ◌++◌, length, map, drop, 
 use Rattle.turn_lock.specs.Steps.{GoesOn, AllBelow, steps_by}
 use Rattle.turn_lock.specs.Knowledge.{TableId, Knowledge}
 use Rattle.omos_outside.specs.Links.{DoorState, GivenBack, HasOut}
-use Rattle.worker_line.specs.Drawn.{Line, Drawn, DrewOn}
-use Rattle.worker_line.specs.Drawn.{TellsOfSeat, new_seat}
+use Rattle.worker_line.specs.Drawn.{Line, Drawn, DrewOn, TellsOfSeat, new_seat}
 use Rattle.worker_line.specs.declared.workers.Seated.{Seated}
 use Rattle.history_book.specs.declared.step.Step.{Step}
 use Rattle.hub_store.specs.Parts.{StoreParts}
@@ -14,8 +13,7 @@ use Rattle.history_book.specs.Legal.{IsLegal}
 use Rattle.omos_hub.specs.Passes.{new_pass}
 use Rattle.omosd_slots.specs.Visits.{WasServed}
 use Rattle.omosd_slots.specs.declared.slot.Slot.{Slot}
-use Rattle.omosd_slots.specs.Fits.{WorkerState, FitsHub, kept_of}
-use Rattle.omosd_slots.specs.Fits.{GoesOnOrStops, one_where}
+use Rattle.omosd_slots.specs.Fits.{WorkerState, FitsHub, kept_of, GoesOnOrStops, one_where}
 
 pub record SlotState : Type 0 where
   pub door : DoorState

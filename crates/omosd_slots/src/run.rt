@@ -4,8 +4,7 @@ ghost use Rattle.std.specs.Prelude.{◌≡◌, ◌<◌, ◌≤◌, [], length, m
 ghost use Rattle.worker_line.specs.Drawn.{IsNew};
 ghost use Rattle.omos_hub.specs.Passes.{AreNew};
 ghost use Rattle.omosd_slots.specs.Slots.{seated_from, slot_of, pass_of, draws_of};
-ghost use Rattle.omosd_slots.specs.Slots.{links_of, failed_of, AreOpen};
-ghost use Rattle.omosd_slots.specs.Slots.{TellAll, Ran};
+ghost use Rattle.omosd_slots.specs.Slots.{links_of, failed_of, AreOpen, TellAll, Ran};
 ghost use Rattle.omosd_slots.specs.Slots.{DrawsFrom, IsSeatTold, slot_states, slots_total};
 
 use crate::moves::take_first;

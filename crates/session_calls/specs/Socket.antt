@@ -1,7 +1,6 @@
 -- `omosd socket`: workers that serve the links which come at their doors, on one store.
 use Rattle.std.specs.Prelude.{◌≡◌, ℕ, ◌==◌, Bool, List, [], ◌∷◌, ◌++◌, codes, decimal, Option, Some}
-use Rattle.std.specs.Prelude.{None}
-use Rattle.std.specs.Prelude.{if◌then◌else◌}
+use Rattle.std.specs.Prelude.{None, if◌then◌else◌}
 use Rattle.command_words.specs.Words.{socket_words}
 use Rattle.command_words.specs.declared.server.SocketWords.{SocketWords}
 use Rattle.omos_outside.specs.Sent.{Wrote}

@@ -3,10 +3,8 @@
 ghost use Rattle.std.specs.Prelude.{◌≡◌, ◌↔◌, ◌⊎◌, IfSome, None, length, map, string_bytes};
 ghost use Rattle.command_words.specs.Words.{AreWithin};
 ghost use Rattle.omos_outside.specs.Faults.{Rose};
-ghost use Rattle.omosd_slots.specs.Slots.{AreOpen};
-ghost use Rattle.omosd_slots.specs.Slots.{slot_states};
-ghost use Rattle.session_calls.specs.Socket.{HasRun, status_by};
-ghost use Rattle.session_calls.specs.Socket.{socket_said};
+ghost use Rattle.omosd_slots.specs.Slots.{AreOpen, slot_states};
+ghost use Rattle.session_calls.specs.Socket.{HasRun, status_by, socket_said};
 
 use crate::totals::totals_line;
 use command_words::{SocketWords, socket_words};

@@ -3,8 +3,7 @@
 ghost use Rattle.std.specs.Prelude.{◌≡◌, ◌↔◌, ◌⊎◌, None, map, string_bytes};
 ghost use Rattle.omos_outside.specs.Faults.{Rose};
 ghost use Rattle.command_words.specs.Words.{stdio_words};
-ghost use Rattle.session_calls.specs.Stdio.{HasServed};
-ghost use Rattle.session_calls.specs.Stdio.{session_status};
+ghost use Rattle.session_calls.specs.Stdio.{HasServed, session_status};
 
 use command_words::stdio_words;
 use hub_store::Store;

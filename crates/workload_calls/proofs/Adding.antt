@@ -5,11 +5,9 @@ use Rattle.std.proofs.lemmas.Grind.{flat_map-append}
 use Rattle.std.proofs.lemmas.List.{map-append}
 use Rattle.std.specs.List.{AllByRecursion, flat_map}
 use Rattle.omos_model.specs.Numbers.{numbers_from}
-use Rattle.omos_wire.specs.Message.{Message, frame}
-use Rattle.omos_wire.specs.Message.{HasFrame}
+use Rattle.omos_wire.specs.Message.{Message, frame, HasFrame}
 use Rattle.std.specs.Prelude.{codes, decimal}
-use Rattle.workload_calls.specs.Stream.{object_path, operands}
-use Rattle.workload_calls.specs.Stream.{AddsFrames}
+use Rattle.workload_calls.specs.Stream.{object_path, operands, AddsFrames}
 
 all_both : {X : Type 0} (P : X → Type 0) (xs ys : List X) → AllByRecursion P xs
     → AllByRecursion P ys → AllByRecursion P (xs ++ ys)

@@ -19,8 +19,7 @@ use Rattle.workload.specs.declared.plan.Plan.{Plan}
 use Rattle.workload.specs.Headers.{file_header, section_headers}
 use Rattle.workload.specs.Plain.{IsSmall, plain_bytes, plain_plan, placed}
 use Rattle.workload.specs.Tables.{no_symbol, rela_of, rela_table, string_table, sym_of}
-use Rattle.workload.specs.Tables.{symbols_from, terminated}
-use Rattle.workload.specs.Tables.{symbol_entries}
+use Rattle.workload.specs.Tables.{symbols_from, terminated, symbol_entries}
 use Rattle.workload_calls.specs.Objects.{call_code, call_of, function, object, start, symbols_of}
 use Rattle.workload_calls.specs.Objects.{called_symbol, next_object}
 use Rattle.workload_calls.proofs.Naming.{short_number}

@@ -17,8 +17,7 @@ use Rattle.workload_calls.specs.declared.replies.Figures.{Figures}
 use Rattle.workload_calls.specs.declared.replies.Said.{Said}
 use Rattle.workload_calls.specs.declared.replies.Said.TheVariants as said
 use Rattle.workload_calls.specs.declared.replies.Sums.{Sums}
-use Rattle.workload_calls.specs.Lines.{numbers_line}
-use Rattle.workload_calls.specs.Lines.{TellsFigures}
+use Rattle.workload_calls.specs.Lines.{numbers_line, TellsFigures}
 use Rattle.workload_calls.specs.Replies.{AreFigures, HadMemory, HasFigures, figures_at, figures_of}
 use Rattle.workload_calls.specs.Replies.{first_figures, no_sums, replies_bytes, said_at, said_of}
 use Rattle.workload_calls.specs.Replies.{sums_from, with_said}

@@ -24,8 +24,7 @@ use Rattle.omos_session.proofs.TurnLaws.{moves_extend}
 use Rattle.omos_wire.proofs.Again.{same_first}
 use Rattle.omos_wire.specs.Answer.{Answer, reply_frame}
 use Rattle.omos_wire.specs.Answer as answer
-use Rattle.omos_wire.specs.Message.{End, Message, Stats, frame}
-use Rattle.omos_wire.specs.Message.{HasFrame}
+use Rattle.omos_wire.specs.Message.{End, Message, Stats, frame, HasFrame}
 use Rattle.omos_wire.specs.Message as message
 use Rattle.workload_calls.specs.Replies.{AreFigures, HasFigures, figures_of, replies_bytes}
 use Rattle.workload_calls.specs.Stream.{links, objects, others, program_path, programs, put_object}

@@ -3,8 +3,7 @@ use Rattle.std.specs.Prelude.{◌≡◌, ℕ, List, [], ◌∷◌, ◌++◌, cod
 use Rattle.std.specs.List.{AllByRecursion}
 use Rattle.omos_wire.specs.Answer.{Answer}
 use Rattle.workload_calls.specs.declared.replies.Figures.{Figures}
-use Rattle.workload_calls.specs.Replies.{HadMemory, first_figures}
-use Rattle.workload_calls.specs.Replies.{image_length, is_image_reply}
+use Rattle.workload_calls.specs.Replies.{HadMemory, first_figures, image_length, is_image_reply}
 
 -- `objects N images I bytes B hits H evicted E placements L version V`
 abbrev pub numbers_line : ℕ → ℕ → ℕ → Figures → List ℕ

@@ -6,8 +6,7 @@ use Rattle.std.specs.List.{flat_map}
 use Rattle.omos_base.specs.Fields.{number_at}
 use Rattle.history_book.specs.Told.{first_of}
 use Rattle.hub_store.specs.declared.counts.Counts.{Counts as Totals}
-use Rattle.omos_wire.specs.Answer.{Answer, Image, Counts}
-use Rattle.omos_wire.specs.Answer.{NoMemory, reply_frame}
+use Rattle.omos_wire.specs.Answer.{Answer, Image, Counts, NoMemory, reply_frame}
 use Rattle.workload_calls.specs.declared.replies.Figures.{Figures}
 use Rattle.workload_calls.specs.declared.replies.Said.{Said}
 use Rattle.workload_calls.specs.declared.replies.Said.TheVariants as said

@@ -3,8 +3,7 @@
 ghost use Rattle.std.specs.Prelude.{◌≡◌, ◌↔◌, ◌⊎◌, None, MatchOption, map, string_bytes};
 ghost use Rattle.omos_outside.specs.Faults.{Rose};
 ghost use Rattle.command_words.specs.Words.{workload_words};
-ghost use Rattle.workload_calls.specs.Workload.{HasWorked};
-ghost use Rattle.workload_calls.specs.Workload.{sent_status};
+ghost use Rattle.workload_calls.specs.Workload.{HasWorked, sent_status};
 
 use crate::serving::serve_workload;
 use command_words::workload_words;

@@ -2,8 +2,7 @@
 
 ghost use Rattle.std.specs.Prelude.{◌≡◌, ◌*◌, ◌≤◌, ◌<◌, ◌∷◌, [], IfOk, OnOk, length};
 ghost use Rattle.std.specs.List.{AllByRecursion};
-ghost use Rattle.omos_wire.specs.Message.{End, Stats, message_of};
-ghost use Rattle.omos_wire.specs.Message.{HasFrame};
+ghost use Rattle.omos_wire.specs.Message.{End, Stats, message_of, HasFrame};
 ghost use Rattle.workload_calls.specs.Stream.{all_text, links, objects, programs};
 ghost use Rattle.workload_calls.specs.Stream.{program_path, program_text, put_all, put_object};
 ghost use Rattle.workload_calls.specs.Stream.{operands, put_program, stream_bytes, twice, workload};

@@ -1,8 +1,7 @@
 //! The objects of a workload.
 
 ghost use Rattle.std.specs.Prelude.{◌≡◌, ◌+◌, ◌≤◌, ◌<◌, ◌==◌, length, IfOk, Some, None};
-ghost use Rattle.workload_calls.specs.Objects.{object, own_symbols, symbols_of};
-ghost use Rattle.workload_calls.specs.Objects.{function};
+ghost use Rattle.workload_calls.specs.Objects.{object, own_symbols, symbols_of, function};
 ghost use Rattle.workload_calls.specs.Objects.{called_symbol};
 
 use crate::names::{function_name, start_name};

@@ -5,8 +5,7 @@ ghost use Rattle.std.specs.List.{AllByRecursion};
 ghost use Rattle.omos_wire.specs.Answer.{Answer, reply_frame};
 ghost use Rattle.workload_calls.specs.Replies.{CanTake, HasFigures, figures_at};
 ghost use Rattle.workload_calls.specs.Replies.{first_option, no_sums, replies_bytes, said_at};
-ghost use Rattle.workload_calls.specs.Replies.{sums_from, with_said};
-ghost use Rattle.workload_calls.specs.Replies.{IsReplyWithin};
+ghost use Rattle.workload_calls.specs.Replies.{sums_from, with_said, IsReplyWithin};
 
 use omos_base::{u32_at, u64_at};
 

@@ -6,8 +6,7 @@ ghost use Rattle.hub_store.specs.Parts.{store_of};
 ghost use Rattle.omos_wire.specs.Answer.{Answer};
 ghost use Rattle.workload_calls.specs.Replies.{HasFigures, replies_bytes};
 ghost use Rattle.workload_calls.specs.Stream.{stream_bytes, workload};
-ghost use Rattle.workload_calls.specs.Workload.{HasTalked, cache, room};
-ghost use Rattle.workload_calls.specs.Workload.{IsServedWorkload};
+ghost use Rattle.workload_calls.specs.Workload.{HasTalked, cache, room, IsServedWorkload};
 ghost use Rattle.workload_calls.specs.Lines.{TellsFigures};
 ghost use Rattle.omos_wire.specs.Message.{HasFrame};
 

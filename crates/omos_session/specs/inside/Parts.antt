@@ -1,8 +1,7 @@
 -- What the parts of a session say: of one frame, of the parts of a link, of one read, and between
 -- two frames. The session as a whole is in Session, and nothing of this file in it.
 use Rattle.std.specs.Prelude.{◌≡◌, ℕ, zero, suc, ◌+◌, ◌≤◌, ◌<◌, Bool, List, [], ◌∷◌, ◌++◌, length}
-use Rattle.std.specs.Prelude.{Option, Ok}
-use Rattle.std.specs.Prelude.{Err}
+use Rattle.std.specs.Prelude.{Option, Ok, Err}
 use Rattle.std.specs.List.{AllByRecursion, flat_map}
 use Rattle.std.specs.Io.KnownBytes.{Appends}
 use Rattle.omos_outside.specs.Stream.{Stream, Gives, IsAtEnd}
@@ -15,8 +14,7 @@ use Rattle.link_model.specs.Module.{Ready}
 use Rattle.link_plan.specs.Images.{IsImageAt}
 use Rattle.history_book.specs.declared.step.Step.{Step}
 use Rattle.history_book.specs.declared.step.Step.TheVariants.{Answered, Put}
-use Rattle.hub_store.specs.Links.{MayFinish}
-use Rattle.hub_store.specs.Links.{note_of_outcome}
+use Rattle.hub_store.specs.Links.{MayFinish, note_of_outcome}
 use Rattle.hub_store.specs.Parts.{TicketParts, IsTicket}
 use Rattle.hub_store.specs.declared.reply.Outcome.{Outcome}
 use Rattle.hub_store.specs.declared.reply.Outcome.TheVariants as outcome
@@ -32,10 +30,8 @@ use Rattle.omos_session.specs.declared.session.SessionEnd.TheVariants as ending
 use Rattle.refusal_lines.specs.declared.refused.Refused.TheVariants as why
 use Rattle.omos_hub.specs.Calls.{Crosses}
 use Rattle.omos_hub.specs.Standing.{Standing, Went, misses}
-use Rattle.omos_session.specs.Talk.{IsBetween, IsMissed, IsTurn, Told}
-use Rattle.omos_session.specs.Talk.{FindsNoRoom, PassesMaxKept}
-use Rattle.omos_hub.specs.Turns.{IsDue}
-use Rattle.omos_hub.specs.Turns.{Turn}
+use Rattle.omos_session.specs.Talk.{IsBetween, IsMissed, IsTurn, Told, FindsNoRoom, PassesMaxKept}
+use Rattle.omos_hub.specs.Turns.{IsDue, Turn}
 use Rattle.omos_session.specs.declared.linking.Made.{Made}
 use Rattle.omos_session.specs.declared.linking.Made.TheVariants as made
 use Rattle.omos_session.specs.declared.session.Piece.{Piece}

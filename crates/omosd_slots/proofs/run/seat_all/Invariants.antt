@@ -3,8 +3,7 @@ use Rattle.turn_lock.specs.Knowledge.{Knowledge}
 use Rattle.history_book.specs.declared.step.Step.{Step}
 use Rattle.omos_hub.specs.Passes.{new_pass}
 use Rattle.worker_line.specs.Drawn.{IsNew}
-use Rattle.omosd_slots.specs.Slots.{seated_from}
-use Rattle.omosd_slots.specs.Slots.{slot_states}
+use Rattle.omosd_slots.specs.Slots.{seated_from, slot_states}
 use Rattle.omosd_slots.proofs.run.seat_all.Given as goal
 
 abbrev pub invariant-slots : goal.invariant-slots

@@ -1,8 +1,7 @@
 use Rattle.std.proofs.Common.{◌-◌, ◌≤◌}
 use Rattle.std.specs.List.{flat_map}
 use Rattle.omos_model.specs.Numbers.{numbers_from}
-use Rattle.workload_calls.specs.Stream.{program_path, twice}
-use Rattle.workload_calls.specs.Stream.{AddsFrames}
+use Rattle.workload_calls.specs.Stream.{program_path, twice, AddsFrames}
 use Rattle.workload_calls.proofs.frames.push_links.Given as goal
 
 abbrev pub invariant-links : goal.invariant-links

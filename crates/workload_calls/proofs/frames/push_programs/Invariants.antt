@@ -1,7 +1,6 @@
 use Rattle.std.proofs.Common.{◌-◌, ◌≤◌, map}
 use Rattle.omos_model.specs.Numbers.{numbers_from}
-use Rattle.workload_calls.specs.Stream.{put_program}
-use Rattle.workload_calls.specs.Stream.{AddsFrames}
+use Rattle.workload_calls.specs.Stream.{put_program, AddsFrames}
 use Rattle.workload_calls.proofs.frames.push_programs.Given as goal
 
 abbrev pub invariant-programs : goal.invariant-programs

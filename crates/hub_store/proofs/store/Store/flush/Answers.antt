@@ -1,5 +1,4 @@
-use Rattle.std.proofs.Common.{rules}
-use Rattle.std.proofs.Common.{refl, sym, ◌∙◌, append_assoc}
+use Rattle.std.proofs.Common.{rules, refl, sym, ◌∙◌, append_assoc}
 use Rattle.image_cache.proofs.Items.{unheld}
 use Rattle.hub_store.proofs.Requests.{after_unheld, after_held, held_told}
 use Rattle.hub_store.proofs.store.Store.flush.Goals as goal

@@ -1,5 +1,4 @@
-use Rattle.std.proofs.Common.{rules}
-use Rattle.std.proofs.Common.{refl, ap, ◌∙◌}
+use Rattle.std.proofs.Common.{rules, refl, ap, ◌∙◌}
 use Rattle.omos_model.specs.Places.{is_of}
 use Rattle.std.specs.Prelude.{filter}
 use Rattle.hub_store.proofs.Requests.{after_missed, after_looked}

@@ -1,5 +1,4 @@
-use Rattle.std.proofs.Common.{rules}
-use Rattle.std.proofs.Common.{refl, arith}
+use Rattle.std.proofs.Common.{rules, refl, arith}
 use Rattle.hub_store.proofs.Requests.{after_put}
 use Rattle.hub_store.proofs.store.Store.put.Goals as goal
 
