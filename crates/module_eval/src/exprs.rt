@@ -1,7 +1,6 @@
 //! The walk through the expression of a blueprint, from left to right, outer before inner.
 
-ghost use Rattle.std.specs.Prelude.{◌≡◌, ℕ, ◌+◌, ◌≤◌, ◌∷◌, true, length, reverse, IsTrue};
-ghost use Rattle.std.specs.Prelude.{OnOk};
+ghost use Rattle.std.specs.Prelude.{ℕ, ◌+◌, ◌≤◌, ◌∷◌, true, length, reverse, IsTrue, OnOk};
 ghost use Rattle.omos_model.specs.Expansion.{site_of};
 ghost use Rattle.omos_model.specs.ImageParts.{is_formed};
 ghost use Rattle.omos_model.specs.Term.{Term};
