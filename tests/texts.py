@@ -11,15 +11,18 @@ reader knows the grammar alone: it keeps the set of all that may still follow, a
 text is the tokens with other blanks. The proved program LINK_CASES then reads them all and says
 which answers differ.
 
-With --rows it writes 250 of them behind the other cases of crates/link_cases/data/cases.txt, and
-what the program is to print.
+With --rows it writes 250 of them, and the blueprints of examples/, behind the other cases of
+crates/link_cases/data/cases.txt, and what the program is to print.
 """
 
 import random
 import re
 import sys
+from pathlib import Path
 
 import table
+
+EXAMPLES = Path(__file__).resolve().parent.parent / "examples"
 
 # ---- the grammar
 
@@ -251,10 +254,16 @@ def shown(text):
     return column
 
 
-def row(number, text):
+def row(name, text):
     found = answer(text)
     kind = "line" if found.startswith(b"refused") else "text"
-    return f"text {number} | /m {shown(text)} | text /m | {kind} {shown(found)}"
+    return f"{name} | /m {shown(text)} | text /m | {kind} {shown(found)}"
+
+
+def examples():
+    """A row for each blueprint of examples/."""
+    for path in sorted(EXAMPLES.glob("*/*.bp")):
+        yield row(f"the text of {path.relative_to(EXAMPLES.parent)}", path.read_bytes())
 
 
 def texts(count):
@@ -266,11 +275,12 @@ def texts(count):
 
 def main():
     if sys.argv[1] == "--rows":
-        made = [row(number, text) for number, text in enumerate(texts(250))]
+        made = [row(f"text {number}", text) for number, text in enumerate(texts(250))]
+        made = [*examples(), *made]
         table.write("tests/texts.py --rows", "texts beside a slow reader of the grammar", made)
         return
     count = int(sys.argv[2]) if len(sys.argv) > 2 else 4000
-    rows = [row(number, text) for number, text in enumerate(texts(count))]
+    rows = [row(f"text {number}", text) for number, text in enumerate(texts(count))]
     table.run(sys.argv[1], rows)
     kinds = [line.split()[-2] for line in rows if "| line refused B" in line]
     refusals = ", ".join(f"{kinds.count(kind)} {kind}" for kind in ("B2", "B3", "B4", "B5", "B6"))
