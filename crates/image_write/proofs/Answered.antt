@@ -9,8 +9,7 @@ use Rattle.link_model.specs.Layout.{pages_in_all}
 use Rattle.link_model.specs.Module.{Module, Placing, parts_of_module, plan_of_module}
 use Rattle.link_model.specs.Plan.{Plan, max_pages, plan_of}
 use Rattle.link_layout.specs.IsLaid as layout
-use Rattle.image_write.specs.Sound.{IsLayoutOf}
-use Rattle.image_write.specs.Written.{IsImageAnswer, Writes}
+use Rattle.image_write.specs.Written.{IsLayoutOf, IsImageAnswer, Writes}
 use Rattle.image_write.proofs.Soundness.{is-planned}
 
 pub pages-few : (m : Module) (l : Placing) → IsLayoutOf m l → l.pages ≤ max_pages

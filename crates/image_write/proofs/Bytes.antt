@@ -25,13 +25,13 @@ use Rattle.link_model.specs.ImageBytes.{slot_address, slot_byte}
 use Rattle.link_model.specs.Layout.{group_begin, program_pieces, slots_begin, target_at}
 use Rattle.link_model.specs.Plan.{Plan, first_in}
 use Rattle.link_model.specs.Program.{Parts, Reference, object_of, references}
-use Rattle.image_write.specs.Addresses.{address_in, slots_byte}
-use Rattle.image_write.specs.Fields.{field_number, last_byte, overflow_in}
-use Rattle.image_write.specs.Groups.{bytes_in_file}
-use Rattle.image_write.specs.Painted.{Painted}
+use Rattle.image_write.specs.inside.Addresses.{address_in, slots_byte}
+use Rattle.image_write.specs.inside.Fields.{field_number, last_byte, overflow_in}
+use Rattle.image_write.specs.inside.Groups.{bytes_in_file}
+use Rattle.image_write.specs.inside.Painted.{Painted}
 use Rattle.link_layout.specs.Pieces.{IsLawful, all_pieces, pieces_in}
-use Rattle.image_write.specs.Sections.{PlacedPiece, byte_at, first_byte, placed_in}
-use Rattle.image_write.specs.Standing.{LeafStands, LeavesStand, StandsInGroup}
+use Rattle.image_write.specs.inside.Sections.{PlacedPiece, byte_at, first_byte, placed_in}
+use Rattle.image_write.specs.inside.Standing.{LeafStands, LeavesStand, StandsInGroup}
 use Rattle.image_write.proofs.Lawful.{piece-bytes, tested}
 use Rattle.image_write.proofs.Sectioned.{placed-more}
 use Rattle.image_write.proofs.Slotted.{covers-below}

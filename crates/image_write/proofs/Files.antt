@@ -14,14 +14,14 @@ use Rattle.link_model.specs.Module.{Module, Placing}
 use Rattle.link_model.specs.Plan.{Plan}
 use Rattle.link_model.specs.Program.{references}
 use Rattle.link_model.specs.declared.groups.Groups.{Groups}
-use Rattle.image_write.specs.Addresses.{slot_in}
-use Rattle.image_write.specs.Filled.{IsComplete, filled_byte, first_overflow}
-use Rattle.image_write.specs.Groups.{bytes_in_file}
+use Rattle.image_write.specs.inside.Addresses.{slot_in}
+use Rattle.image_write.specs.inside.Filled.{IsComplete, filled_byte, first_overflow}
+use Rattle.image_write.specs.inside.Groups.{bytes_in_file}
 use Rattle.image_write.specs.inside.Headers.{page_in}
-use Rattle.image_write.specs.Painted.{Painted}
-use Rattle.image_write.specs.Plans.{plan_with}
-use Rattle.image_write.specs.Sound.{IsSound}
-use Rattle.image_write.specs.Written.{entry_in}
+use Rattle.image_write.specs.inside.Painted.{Painted}
+use Rattle.image_write.specs.inside.Plans.{plan_with}
+use Rattle.image_write.specs.inside.Sound.{IsSound}
+use Rattle.image_write.specs.inside.Filled.{entry_in}
 use Rattle.image_write.proofs.Bytes.{SlotsStand, address-same, body-bytes, overflow-same}
 use Rattle.image_write.proofs.HeaderPages.{page-same}
 

@@ -9,7 +9,7 @@ use Rattle.link_model.specs.Layout.{page}
 use Rattle.link_model.specs.Plan.{Plan}
 use Rattle.link_model.specs.ImageBytes.{entry_address, header_page, headers, program_headers, stack}
 use Rattle.link_model.specs.declared.groups.Groups.{Groups}
-use Rattle.image_write.specs.Groups.{AreGroups}
+use Rattle.image_write.specs.inside.Groups.{AreGroups}
 use Rattle.image_write.specs.inside.Headers.{all_groups, ehdr_with, front_in, headers_in, load_at}
 use Rattle.image_write.specs.inside.Headers.{page_in}
 

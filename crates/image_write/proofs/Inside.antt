@@ -19,13 +19,13 @@ use Rattle.link_model.specs.Layout.{aligned, all_pages, end_of, end_with_slots, 
 use Rattle.link_model.specs.Layout.{group_pages, group_size, page, pages_of, program_pieces}
 use Rattle.link_model.specs.Layout.{slots_begin, slots_of}
 use Rattle.link_model.specs.Program.{Parts, object_of}
-use Rattle.image_write.specs.Addresses.{AreLow, max_place, place_in}
-use Rattle.image_write.specs.Fields.{AreFieldsInside, IsFieldInside}
-use Rattle.image_write.specs.Groups.{bytes_in_file}
+use Rattle.image_write.specs.inside.Addresses.{AreLow, max_place, place_in}
+use Rattle.image_write.specs.inside.Fields.{AreFieldsInside, IsFieldInside}
+use Rattle.image_write.specs.inside.Groups.{bytes_in_file}
 use Rattle.link_layout.specs.Pieces.{IsLawful, pieces_in}
-use Rattle.image_write.specs.Sections.{AreInside, IsInside, IsLeafInside, PlacedPiece}
+use Rattle.image_write.specs.inside.Sections.{AreInside, IsInside, IsLeafInside, PlacedPiece}
 use Rattle.link_layout.specs.Slots.{fixups_in}
-use Rattle.image_write.specs.Standing.{LeafStands, LeavesStand, StandsInGroup}
+use Rattle.image_write.specs.inside.Standing.{LeafStands, LeavesStand, StandsInGroup}
 use Rattle.image_write.proofs.Lawful.{piece-bytes, tested}
 use Rattle.image_write.proofs.Sectioned.{pair-at}
 

@@ -7,7 +7,7 @@ use Rattle.std.specs.Prelude.{slice_index}
 use Rattle.std.specs.Option.{option_map, option_or}
 use Rattle.std.proofs.lemmas.List.{places}
 use Rattle.std.proofs.lemmas.Bool.Decides.{nat_tests}
-use Rattle.image_write.specs.Painted.{Painted, run_at}
+use Rattle.image_write.specs.inside.Painted.{Painted, run_at}
 
 -- nothing is written
 pub painted-nothing : (old : List ℕ) → Painted old (λ x. None) old

@@ -28,10 +28,10 @@ use Rattle.link_model.specs.Module.{part_with}
 use Rattle.link_model.specs.Plan.{first_in}
 use Rattle.link_model.specs.Program.{Part, Reference, reference_of, references_in}
 use Rattle.link_layout.proofs.Parts.{first_in-append}
-use Rattle.image_write.specs.Addresses.{address_in}
-use Rattle.image_write.specs.Fields.{IsPatched, byte_in, field_number, field_place_in, last_byte}
-use Rattle.image_write.specs.Fields.{overflow_in, references_of}
-use Rattle.image_write.specs.Painted.{Painted, run_at}
+use Rattle.image_write.specs.inside.Addresses.{address_in}
+use Rattle.image_write.specs.inside.Fields.{IsPatched, byte_in, field_number, field_place_in}
+use Rattle.image_write.specs.inside.Fields.{last_byte, overflow_in, references_of}
+use Rattle.image_write.specs.inside.Painted.{Painted, run_at}
 use Rattle.link_layout.specs.Slots.{fixups_in}
 use Rattle.image_write.proofs.Painting.{either, painted-as, painted-run, painted-then}
 

@@ -12,10 +12,10 @@ use Rattle.std.proofs.lemmas.Slice.Zip.{length-zip, get_or-zip}
 use Rattle.omos_model.specs.declared.entry.Entry.{Entry}
 use Rattle.omos_model.specs.declared.fragment.Piece.{Piece}
 use Rattle.link_model.specs.ImageBytes.{covers}
-use Rattle.image_write.specs.Painted.{Painted, run_at}
+use Rattle.image_write.specs.inside.Painted.{Painted, run_at}
 use Rattle.link_layout.specs.Pieces.{all_pieces, pieces_in}
-use Rattle.image_write.specs.Sections.{AreInside, IsInside, IsLeafInside, PlacedPiece, byte_at}
-use Rattle.image_write.specs.Sections.{first_byte, placed_in}
+use Rattle.image_write.specs.inside.Sections.{AreInside, IsInside, IsLeafInside, PlacedPiece}
+use Rattle.image_write.specs.inside.Sections.{byte_at, first_byte, placed_in}
 use Rattle.image_write.proofs.Painting.{either, painted-as, painted-nothing, painted-then}
 
 -- ---- two lists side by side

@@ -10,8 +10,8 @@ use Rattle.omos_base.specs.Endian.{little_bytes}
 use Rattle.omos_base.specs.Fields.{with_number}
 use Rattle.omos_model.specs.declared.mark.Target.{Target}
 use Rattle.link_model.specs.ImageBytes.{covers}
-use Rattle.image_write.specs.Addresses.{address_in, slots_byte}
-use Rattle.image_write.specs.Painted.{Painted, run_at}
+use Rattle.image_write.specs.inside.Addresses.{address_in, slots_byte}
+use Rattle.image_write.specs.inside.Painted.{Painted, run_at}
 use Rattle.image_write.proofs.Painting.{painted-as, painted-run, painted-then, run_at-behind}
 use Rattle.image_write.proofs.Painting.{run_at-below, run_at-inside}
 use Rattle.std.proofs.lemmas.Option.{slice_get_read}

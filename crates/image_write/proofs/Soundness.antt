@@ -19,11 +19,12 @@ use Rattle.link_layout.proofs.Groups.{begins-of_groups, sizes-of_groups}
 use Rattle.link_layout.proofs.Parts.{pieces-parts}
 use Rattle.link_layout.proofs.Planned.{as_many}
 use Rattle.link_model.specs.declared.groups.Groups.{Groups}
-use Rattle.image_write.specs.Groups.{AreGroups}
+use Rattle.image_write.specs.inside.Groups.{AreGroups}
 use Rattle.link_layout.specs.Pieces.{AreBounded, IsLawful, pieces_in}
-use Rattle.image_write.specs.Plans.{plan_with}
-use Rattle.image_write.specs.Sound.{IsLayoutOf, IsSound}
-use Rattle.image_write.specs.Standing.{LeavesStand}
+use Rattle.image_write.specs.inside.Plans.{plan_with}
+use Rattle.image_write.specs.inside.Sound.{IsSound}
+use Rattle.image_write.specs.Written.{IsLayoutOf}
+use Rattle.image_write.specs.inside.Standing.{LeavesStand}
 use Rattle.image_write.proofs.Inside.{all-inside, all-low, fields-inside, slots-inside}
 use Rattle.image_write.proofs.Lawful.{bounded}
 use Rattle.image_write.proofs.Standing.{leaves-stand}

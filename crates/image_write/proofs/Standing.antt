@@ -14,7 +14,7 @@ use Rattle.link_model.specs.Layout.{places_behind, places_from, same_group}
 use Rattle.link_model.specs.Module.{part_with}
 use Rattle.link_model.specs.Program.{Parts}
 use Rattle.link_layout.specs.Pieces.{AreBounded, IsBoundedPiece, all_pieces, pieces_in}
-use Rattle.image_write.specs.Standing.{LeafStands, LeavesStand, StandsInGroup}
+use Rattle.image_write.specs.inside.Standing.{LeafStands, LeavesStand, StandsInGroup}
 
 aligned-above : (align offset : ℕ) → 1 ≤ align → offset ≤ aligned align offset
 aligned-above align offset h = omega arith

@@ -1,11 +1,2 @@
-pub mod Groups
-pub mod Plans
-pub mod Painted
-pub mod Sections
-pub mod Addresses
-pub mod Fields
-pub mod Standing
-pub mod Filled
-pub mod Sound
 pub mod Written
 pub mod inside

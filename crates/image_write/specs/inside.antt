@@ -1,1 +1,10 @@
+pub mod Groups
+pub mod Plans
+pub mod Painted
+pub mod Sections
+pub mod Addresses
+pub mod Fields
+pub mod Standing
+pub mod Filled
+pub mod Sound
 pub mod Headers

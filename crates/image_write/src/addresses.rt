@@ -1,7 +1,8 @@
 //! Addresses, from the base and the places of the pieces.
 
 ghost use Rattle.std.specs.Prelude.{◌≡◌, ◌≤◌};
-ghost use Rattle.image_write.specs.Addresses.{AreLow, address_in, max_place, place_in_row, row_in};
+ghost use Rattle.image_write.specs.inside.Addresses.{AreLow, address_in, max_place, place_in_row};
+ghost use Rattle.image_write.specs.inside.Addresses.{row_in};
 
 use omos_base::Row;
 use omos_model::Target;

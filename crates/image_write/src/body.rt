@@ -2,11 +2,11 @@
 
 ghost use Rattle.std.specs.Prelude.{◌≡◌, ◌+◌, ◌≤◌, length};
 ghost use Rattle.link_model.specs.Module.{parts_of_module};
-ghost use Rattle.image_write.specs.Addresses.{max_place, slot_in};
-ghost use Rattle.image_write.specs.Groups.{bytes_in_file};
-ghost use Rattle.image_write.specs.Plans.{plan_with};
-ghost use Rattle.image_write.specs.Sound.{IsSound};
-ghost use Rattle.image_write.specs.Written.{FillsBehind};
+ghost use Rattle.image_write.specs.inside.Addresses.{max_place, slot_in};
+ghost use Rattle.image_write.specs.inside.Groups.{bytes_in_file};
+ghost use Rattle.image_write.specs.inside.Plans.{plan_with};
+ghost use Rattle.image_write.specs.inside.Sound.{IsSound};
+ghost use Rattle.image_write.specs.inside.Filled.{FillsBehind};
 
 use crate::fields::{Ground, patch_fields};
 use crate::sections::copy_sections;

@@ -7,8 +7,10 @@ ghost use Rattle.link_model.specs.Field.{field_value};
 ghost use Rattle.link_model.specs.Layout.{target_at};
 ghost use Rattle.link_model.specs.Module.{part_with};
 ghost use Rattle.link_model.specs.Program.{reference_of, references};
-ghost use Rattle.image_write.specs.Addresses.{AreLow, address_in, max_place, row_in, slot_in};
-ghost use Rattle.image_write.specs.Fields.{AreFieldsInside, IsFieldInside, Patches, references_of};
+ghost use Rattle.image_write.specs.inside.Addresses.{AreLow, address_in, max_place, row_in};
+ghost use Rattle.image_write.specs.inside.Addresses.{slot_in};
+ghost use Rattle.image_write.specs.inside.Fields.{AreFieldsInside, IsFieldInside, Patches};
+ghost use Rattle.image_write.specs.inside.Fields.{references_of};
 
 use crate::addresses::{address_in, place_at, row_in};
 use link_layout::{fixups_in, is_got, target_at};

@@ -1,9 +1,9 @@
 //! The whole file.
 
 ghost use Rattle.std.specs.Prelude.{◌≡◌, ◌+◌, ◌*◌, ◌%◌, ◌^◌, ◌≤◌};
-ghost use Rattle.image_write.specs.Addresses.{AreLow, max_place};
-ghost use Rattle.image_write.specs.Sound.{IsLayoutOf};
-ghost use Rattle.image_write.specs.Written.{Writes, entry_in};
+ghost use Rattle.image_write.specs.inside.Addresses.{AreLow, max_place};
+ghost use Rattle.image_write.specs.Written.{IsLayoutOf, Writes};
+ghost use Rattle.image_write.specs.inside.Filled.{entry_in};
 
 use crate::addresses::address_in;
 use crate::body::fill;

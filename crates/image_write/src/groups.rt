@@ -1,6 +1,7 @@
 //! Where the groups of a module stand, and that all it places lies in the file.
 
-ghost use Rattle.image_write.specs.Sound.{IsLayoutOf, IsSound};
+ghost use Rattle.image_write.specs.inside.Sound.{IsSound};
+ghost use Rattle.image_write.specs.Written.{IsLayoutOf};
 ghost use Rattle.link_model.specs.Layout.{program_pieces};
 
 use link_layout::are_lawful;

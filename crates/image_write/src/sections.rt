@@ -5,8 +5,8 @@
 
 ghost use Rattle.std.specs.Prelude.{◌≡◌, ◌+◌, ◌≤◌, ◌++◌, All, drop, length, take};
 ghost use Rattle.std.specs.List.{zip};
-ghost use Rattle.image_write.specs.Painted.{Painted, run_at};
-ghost use Rattle.image_write.specs.Sections.{AreInside, IsInside, first_byte, placed_in};
+ghost use Rattle.image_write.specs.inside.Painted.{Painted, run_at};
+ghost use Rattle.image_write.specs.inside.Sections.{AreInside, IsInside, first_byte, placed_in};
 
 use link_layout::pieces_in;
 use omos_base::{Row, Shared};

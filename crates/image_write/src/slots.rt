@@ -1,8 +1,8 @@
 //! The bytes of the slots.
 
 ghost use Rattle.std.specs.Prelude.{◌+◌, ◌*◌, ◌≤◌, length};
-ghost use Rattle.image_write.specs.Addresses.{AreLow, max_place, slots_byte};
-ghost use Rattle.image_write.specs.Painted.{Painted};
+ghost use Rattle.image_write.specs.inside.Addresses.{AreLow, max_place, slots_byte};
+ghost use Rattle.image_write.specs.inside.Painted.{Painted};
 
 use crate::addresses::address_in;
 use link_model::Slot;

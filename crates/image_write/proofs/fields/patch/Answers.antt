@@ -1,5 +1,5 @@
 use Rattle.std.proofs.Common.{ap, ◌+◌, ◌∙◌}
-use Rattle.image_write.specs.Addresses.{place_in_row, slot_in}
+use Rattle.image_write.specs.inside.Addresses.{place_in_row, slot_in}
 use Rattle.image_write.proofs.Patched.{patched-at}
 use Rattle.image_write.proofs.fields.patch.Goals as goal
 

@@ -2,8 +2,8 @@ use Rattle.std.proofs.Common.{take, map}
 use Rattle.std.specs.List.{enumerate_from, flat_map, zip}
 use Rattle.link_model.specs.Module.{part_with}
 use Rattle.link_model.specs.Program.{references_in}
-use Rattle.image_write.specs.Addresses.{slot_in}
-use Rattle.image_write.specs.Fields.{IsPatched}
+use Rattle.image_write.specs.inside.Addresses.{slot_in}
+use Rattle.image_write.specs.inside.Fields.{IsPatched}
 use Rattle.image_write.proofs.fields.patch_fields.Given as goal
 
 abbrev pub invariant-loop-leaf : goal.invariant-loop-leaf

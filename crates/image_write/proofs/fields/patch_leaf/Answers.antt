@@ -1,7 +1,7 @@
 use Rattle.std.proofs.Common.{arith, subst, sym}
 use Rattle.std.proofs.lemmas.Result.{err_from_is_err_and}
-use Rattle.image_write.specs.Addresses.{slot_in}
-use Rattle.image_write.specs.Fields.{IsPatched, overflow_in}
+use Rattle.image_write.specs.inside.Addresses.{slot_in}
+use Rattle.image_write.specs.inside.Fields.{IsPatched, overflow_in}
 use Rattle.image_write.proofs.Patched.{leaf-all, leaf-more, patched-append, refused-in}
 use Rattle.image_write.proofs.fields.patch_leaf.Goals as goal
 

@@ -1,6 +1,6 @@
 use Rattle.std.proofs.Common.{take}
-use Rattle.image_write.specs.Addresses.{slot_in}
-use Rattle.image_write.specs.Fields.{IsPatched, references_of}
+use Rattle.image_write.specs.inside.Addresses.{slot_in}
+use Rattle.image_write.specs.inside.Fields.{IsPatched, references_of}
 use Rattle.image_write.proofs.fields.patch_leaf.Given as goal
 
 abbrev pub invariant-loop-number : goal.invariant-loop-number

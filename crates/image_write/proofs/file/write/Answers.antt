@@ -1,7 +1,7 @@
 use Rattle.std.proofs.Common.{ℕ, ◌+◌, List, Ok, ap, sym, ◌∙◌}
 use Rattle.omos_model.specs.declared.fragment.Group.TheVariants.{Zeros}
-use Rattle.image_write.specs.Plans.{plan_with}
-use Rattle.image_write.specs.Written.{entry_in}
+use Rattle.image_write.specs.inside.Plans.{plan_with}
+use Rattle.image_write.specs.inside.Filled.{entry_in}
 use Rattle.image_write.proofs.Files.{rest-size, written-err, written-ok}
 use Rattle.image_write.proofs.file.write.Goals as goal
 

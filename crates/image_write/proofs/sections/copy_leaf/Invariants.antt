@@ -1,7 +1,7 @@
 use Rattle.std.proofs.Common.{◌≤◌, drop, length}
 use Rattle.std.specs.List.{zip}
-use Rattle.image_write.specs.Painted.{Painted}
-use Rattle.image_write.specs.Sections.{first_byte}
+use Rattle.image_write.specs.inside.Painted.{Painted}
+use Rattle.image_write.specs.inside.Sections.{first_byte}
 use Rattle.image_write.proofs.sections.copy_leaf.Given as goal
 
 abbrev pub invariant-loop-at : goal.invariant-loop-at

@@ -1,6 +1,6 @@
 use Rattle.std.proofs.Common.{◌≤◌, drop, length}
-use Rattle.image_write.specs.Painted.{Painted}
-use Rattle.image_write.specs.Sections.{first_byte, placed_in}
+use Rattle.image_write.specs.inside.Painted.{Painted}
+use Rattle.image_write.specs.inside.Sections.{first_byte, placed_in}
 use Rattle.image_write.proofs.sections.copy_sections.Given as goal
 
 abbrev pub invariant-loop-at : goal.invariant-loop-at

@@ -1,5 +1,5 @@
-use Rattle.image_write.specs.Addresses.{slots_byte}
-use Rattle.image_write.specs.Painted.{Painted}
+use Rattle.image_write.specs.inside.Addresses.{slots_byte}
+use Rattle.image_write.specs.inside.Painted.{Painted}
 use Rattle.image_write.proofs.slots.write_slots.Given as goal
 
 abbrev pub invariant-loop-number : goal.invariant-loop-number

@@ -5,7 +5,7 @@ use Rattle.omos_model.specs.declared.entry.Entry.{Entry}
 use Rattle.link_model.specs.Layout.{end_of, group_begin, program_pieces}
 use Rattle.link_model.specs.Program.{Parts}
 use Rattle.link_layout.specs.Pieces.{pieces_in}
-use Rattle.image_write.specs.Sections.{PlacedPiece}
+use Rattle.image_write.specs.inside.Sections.{PlacedPiece}
 
 -- a piece stands in its group
 pub record StandsInGroup (parts : Parts) (y : PlacedPiece) : Type 0 where

@@ -5,18 +5,14 @@ use Rattle.link_model.specs.Layout.{program_pieces, slots_begin}
 use Rattle.link_model.specs.Module.{Module, Placing, parts_of_module, placing_of, plan_of_module}
 use Rattle.link_model.specs.Plan.{Plan}
 use Rattle.link_model.specs.declared.groups.Groups.{Groups}
-use Rattle.image_write.specs.Addresses.{AreLow}
+use Rattle.image_write.specs.inside.Addresses.{AreLow}
 use Rattle.link_model.specs.Groups.{bytes_of}
-use Rattle.image_write.specs.Fields.{AreFieldsInside}
-use Rattle.image_write.specs.Groups.{AreGroups, bytes_in_file}
+use Rattle.image_write.specs.inside.Fields.{AreFieldsInside}
+use Rattle.image_write.specs.inside.Groups.{AreGroups, bytes_in_file}
 use Rattle.link_layout.specs.Pieces.{IsLawful, all_pieces}
-use Rattle.image_write.specs.Plans.{plan_with}
-use Rattle.image_write.specs.Sections.{AreInside}
-use Rattle.image_write.specs.Standing.{LeavesStand}
-
--- the layout is that of the module's plan
-abbrev pub IsLayoutOf : Module → Placing → Type 0
-IsLayoutOf m l = (plan : Plan) × (plan_of_module m ≡ Ok plan) × (l ≡ placing_of plan)
+use Rattle.image_write.specs.inside.Plans.{plan_with}
+use Rattle.image_write.specs.inside.Sections.{AreInside}
+use Rattle.image_write.specs.inside.Standing.{LeavesStand}
 
 -- the module and its layout make the plan, and all that they place lies in the file
 pub record IsSound (x : Groups) (m : Module) (l : Placing) : Type 0 where

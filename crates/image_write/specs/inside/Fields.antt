@@ -17,8 +17,8 @@ use Rattle.link_model.specs.ImageBytes.{covers}
 use Rattle.link_model.specs.Layout.{target_at}
 use Rattle.link_model.specs.Plan.{first_in}
 use Rattle.link_model.specs.Program.{Reference, reference_of}
-use Rattle.image_write.specs.Addresses.{address_in, place_in}
-use Rattle.image_write.specs.Painted.{Painted}
+use Rattle.image_write.specs.inside.Addresses.{address_in, place_in}
+use Rattle.image_write.specs.inside.Painted.{Painted}
 use Rattle.link_layout.specs.Slots.{fixups_in}
 
 -- where a field stands, counted from the base
