@@ -21,3 +21,4 @@ pub use layout::Layout;
 pub use linked::Linked;
 pub use planned::Planned;
 pub use slot::Slot;
+pub use start::usual_start;

@@ -6,12 +6,13 @@ ghost use Rattle.omos_model.specs.ImageParts.{is_formed};
 ghost use Rattle.omos_model.specs.Term.{Term};
 ghost use Rattle.omos_model.specs.Tree.{tree_of};
 ghost use Rattle.module_share.specs.Trails.{Trail};
-ghost use Rattle.module_eval.specs.Costs.{joined, operators, owed, owed_by};
-ghost use Rattle.module_eval.specs.Counted.{visit_of};
-ghost use Rattle.module_eval.specs.Meant.{Means};
-ghost use Rattle.module_eval.specs.Pendings.{Comes, ComesTo, EndsAt, others_in};
-ghost use Rattle.module_eval.specs.Walked.{IsLimit, Walked, path_in, tree_in};
-ghost use Rattle.module_eval.specs.Walks.{Charges, ComesBack, CountOn, EndsFrom, IsReady, space_of};
+ghost use Rattle.module_eval.specs.Costs.{joins, operators, owed, owed_by};
+ghost use Rattle.module_eval.specs.inside.Counted.{visit_of};
+ghost use Rattle.module_eval.specs.inside.Meant.{Means};
+ghost use Rattle.module_eval.specs.inside.Pendings.{Comes, ComesTo, EndsAt, others_in};
+ghost use Rattle.module_eval.specs.inside.Walked.{IsLimit, Walked, path_in, tree_in};
+ghost use Rattle.module_eval.specs.inside.Walks.{Charges, ComesBack, CountOn, EndsFrom, MayGoOn};
+ghost use Rattle.module_eval.specs.inside.Walks.{space_of};
 
 use crate::counts::begin_node;
 use crate::node::WalkFault;
@@ -35,7 +36,7 @@ pub fn visit_expr<'a, L: Ledger>(
     walk: &mut Walk<'a>,
     steps: &mut Steps<L>,
 ) -> Result<Part, WalkFault>
-    requires ready { IsReady (space_of place.now) walk.old }
+    requires ready { MayGoOn (space_of place.now) walk.old }
     requires formed { IsTrue (is_formed expr.now) }
     ensures walk { (limit : ℕ) → IsLimit result walk.new.memo.deepest limit
         → Walked place.now.counting result (tree_in (space_of place.now) limit walk.old.above
@@ -62,7 +63,7 @@ fn descend<'a, L: Ledger>(
     walk: &mut Walk<'a>,
     steps: &mut Steps<L>,
 ) -> Result<Part, WalkFault>
-    requires ready { IsReady (space_of place.now) walk.old }
+    requires ready { MayGoOn (space_of place.now) walk.old }
     requires formed { IsTrue (is_formed expr.now) }
     ensures walk { (limit : ℕ) (end : Trail Term) → IsLimit result walk.new.memo.deepest limit
         → Comes (tree_in (space_of place.now) limit walk.old.above place.now.at.now
@@ -106,7 +107,7 @@ fn resume<'a, L: Ledger>(
     walk: &mut Walk<'a>,
     steps: &mut Steps<L>,
 ) -> Result<Part, WalkFault>
-    requires ready { IsReady (space_of place.now) walk.old }
+    requires ready { MayGoOn (space_of place.now) walk.old }
     ensures walk { (limit : ℕ) (t : Term) (end : Trail Term)
         → IsLimit result walk.new.memo.deepest limit → Means place.now.counting part t
         → EndsAt place.now.counting (space_of place.now) limit walk.old.above place.now.at.now
@@ -154,7 +155,7 @@ fn visit_others<'a, L: Ledger>(
     walk: &mut Walk<'a>,
     steps: &mut Steps<L>,
 ) -> Result<Part, WalkFault>
-    requires ready { IsReady (space_of place.now) walk.old }
+    requires ready { MayGoOn (space_of place.now) walk.old }
     ensures walk { (limit : ℕ) (t : Term) (end : Trail Term)
         → IsLimit result walk.new.memo.deepest limit → Means place.now.counting left t
         → Comes (others_in (path_in (space_of place.now) limit walk.old.above true place.now.at.now)
@@ -168,7 +169,7 @@ fn visit_others<'a, L: Ledger>(
     ensures done { OnOk result (length pending.new + walk.old.counts.nodes
         ≤ length pending.old + walk.new.counts.nodes) }
     ensures cost { Charges (space_of place.now) place.now.counting
-        (joined others.entry + owed pending.old) (owed pending.new)
+        (joins others.entry + owed pending.old) (owed pending.new)
         walk.old.counts walk.new.counts steps.old steps.new }
 {
     let Some((operand, others)) = others.split_first() else {
