@@ -38,19 +38,17 @@ fn place(store: &mut Store, ticket: &Ticket, planned: &Planned) -> PlaceReply
     store.place(ticket, planned)
 }
 
-/// How the ticket's request may end: it is evaluated, placed and linked.
-pub(crate) fn outcome_of(alloc: Global, store: &mut Store, ticket: &Ticket) -> Outcome
+/// How the ticket's request may end, whose plan this is: it is placed and linked. The plan is lent, so
+/// that nothing of it is let go of here.
+fn outcome_of_plan(alloc: Global, store: &mut Store, ticket: &Ticket, planned: &Planned) -> Outcome
     requires ticket { IsTicket store.old.steps ticket.now }
     requires unplaced { is_placed store.old.steps ticket.now.number ≡ false }
+    requires planned { (plan : Plan) × IsPlanFor ticket.now planned.now plan }
     ensures ticket { IsTicket store.new.steps ticket.now }
     ensures outcome { MayFinish store.new.steps ticket.now result }
 {
     laws::footprints_decide();
-    let planned = match plan(alloc, ticket.snap(), ticket.path()) {
-        Ok(planned) => planned,
-        Err(fault) => return refused(alloc, fault),
-    };
-    let base = match place(store, ticket, &planned) {
+    let base = match place(store, ticket, planned) {
         PlaceReply::At(base) => base,
         PlaceReply::NoRoom => {
             let refusal = Refusal::NoRoom {
@@ -61,12 +59,25 @@ pub(crate) fn outcome_of(alloc: Global, store: &mut Store, ticket: &Ticket) -> O
             return refused(alloc, Fault::Refused(refusal));
         }
     };
-    let linked = match link(alloc, &planned, base) {
+    let linked = match link(alloc, planned, base) {
         Ok(linked) => linked,
         Err(fault) => return refused(alloc, fault),
     };
     match Shared::of(alloc, linked) {
         Ok(image) => Outcome::Image(image),
         Err(_) => Outcome::NoMemory,
+    }
+}
+
+/// How the ticket's request may end: it is evaluated, placed and linked.
+pub(crate) fn outcome_of(alloc: Global, store: &mut Store, ticket: &Ticket) -> Outcome
+    requires ticket { IsTicket store.old.steps ticket.now }
+    requires unplaced { is_placed store.old.steps ticket.now.number ≡ false }
+    ensures ticket { IsTicket store.new.steps ticket.now }
+    ensures outcome { MayFinish store.new.steps ticket.now result }
+{
+    match plan(alloc, ticket.snap(), ticket.path()) {
+        Ok(planned) => outcome_of_plan(alloc, store, ticket, &planned),
+        Err(fault) => refused(alloc, fault),
     }
 }
