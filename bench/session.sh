@@ -4,7 +4,9 @@
 # apart, after the replies were compared. Then `omosd workload 100`, whole, by image.
 #
 # Then it times hits of an image of 8 KiB over pipes, beside a C program that answers as many bytes
-# (bench/pipes.c, which also asks both): the median round trip and the least of 20,000.
+# (bench/pipes.c, which also asks both): the median round trip and the least of 20,000. Both ends are
+# held on one processor, where taskset is installed: elsewhere the median tells where the system put
+# them.
 #
 #   usage: bench/session.sh OMOSD
 set -eu
@@ -85,8 +87,10 @@ for name, data in (("setup", setup), ("begin", replies[:-size]), ("request", lin
                    ("reply", replies[-size:])):
     open(name, "wb").write(data)
 PY
+held=()
+if command -v taskset > /dev/null; then held=(taskset -c 0); fi
 for program in omosd plain omosd plain; do
   if [ $program = omosd ]; then words=("$omosd" stdio 4 65536); else words=(./pipes answer begin reply); fi
   echo "a hit of $(stat -c %s reply) bytes over pipes, $program:" \
-    "$(./pipes ask setup begin request reply 20000 "${words[@]}") us"
+    "$("${held[@]}" ./pipes ask setup begin request reply 20000 "${words[@]}") us"
 done
