@@ -84,6 +84,7 @@ def main():
     if not shutil.which("rt"):
         sys.exit("build: rt is missing: install the Rattle kit, and put its bin/ on the PATH")
     progress = Progress(needed(program for program, _, _ in wanted))
+    print("    0.0 min  a quick pass over all sources comes first", flush=True)
     for program, _, word in wanted:
         if not build(program, word, progress):
             sys.exit(f"build: {program} was not built; no program is left behind")
