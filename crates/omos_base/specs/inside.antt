@@ -1,1 +1,2 @@
 pub mod PackedBytes
+pub mod Spans

@@ -41,6 +41,16 @@ impl Packed {
         })
     }
 
+    /// The bytes of a `Vec`, which stand apart however few they are. It takes no memory.
+    pub fn from_vec(bytes: Vec<u8>) -> Packed
+        ensures { result ≡ bytes.items }
+    {
+        Packed {
+            few: ArrayVec::new(),
+            many: bytes,
+        }
+    }
+
     /// The bytes.
     pub fn as_slice(&self) -> &[u8]
         ensures { result.now ≡ self.now }

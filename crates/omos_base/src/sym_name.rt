@@ -14,8 +14,7 @@ ghost use Rattle.omos_base.specs.SymNames.{IsNameByte, IsSymName, IsFirstBarred}
 ghost use Rattle.omos_base.specs.SymNames.{HasNameFault, is_name_byte};
 
 use crate::fault::{Fault, NoMemory};
-use crate::packed::Packed;
-use crate::shared::Shared;
+use crate::part::Part;
 use std::alloc::Global;
 use std::cmp::Ordering;
 use std::hash::{Hash, Hasher};
@@ -38,7 +37,7 @@ pub enum NameFault {
 /// Names are ordered by their bytes; a proper prefix comes first.
 #[derive(Debug, Drop)]
 pub struct SymName {
-    bytes: Shared<Packed>,
+    bytes: Part,
 }
 
 impl Model for SymName {
@@ -86,10 +85,17 @@ impl SymName {
         if let Some(place) = first_barred(bytes) {
             return Err(Fault::Refused(NameFault::Byte(place as u32)));
         }
-        let bytes = Packed::from_slice(alloc, bytes)?;
         Ok(SymName {
-            bytes: Shared::of(alloc, bytes)?,
+            bytes: Part::from_slice(alloc, bytes)?,
         })
+    }
+
+    /// The name with these bytes, of which none is tested or copied.
+    pub fn of(bytes: Part) -> SymName
+        requires { IsSymName bytes }
+        ensures { result ≡ bytes }
+    {
+        SymName { bytes }
     }
 
     /// A second owner of the same bytes, which are not copied.
@@ -106,7 +112,7 @@ impl SymName {
         ensures bytes { result.now ≡ self.now }
         ensures name { IsSymName self.now }
     {
-        self.bytes.get().as_slice()
+        self.bytes.as_slice()
     }
 }
 
