@@ -1,6 +1,7 @@
 -- What is kept of a file without a fault beside its bytes.
 use Rattle.std.specs.Prelude.{◌≡◌, ℕ, ◌+◌, ◌*◌, ◌<◌, ◌≤◌, Bool, false, List, length, None}
 use Rattle.std.specs.Prelude.{slice_index_or}
+use Rattle.omos_base.specs.Runs.{run_of}
 use Rattle.omos_model.specs.ElfFields.{e_shnum, section_bytes, sh_link, sh_offset, symbol_count}
 use Rattle.omos_model.specs.ElfFields.{symbol_table}
 use Rattle.omos_model.specs.ElfFaults.{is_kept, object_fault}
@@ -18,9 +19,15 @@ pub record AreSymbols (file : List ℕ) (count at : ℕ) (strings : List ℕ) : 
   pub inside : at + 24 * count ≤ length file
   pub named : 0 < count → strings ≡ section_bytes file (sh_link file (symbol_table file))
 
-pub record AreTables (file : List ℕ) (kept : List Bool) (count at : ℕ) (strings : List ℕ)
-    : Type 0 where
+-- the bytes stand in the file from a place on
+abbrev pub StandsAt : List ℕ → ℕ → List ℕ → Type 0
+StandsAt file at bytes =
+    (at + length bytes ≤ length file) × (run_of at (length bytes) file ≡ bytes)
+
+pub record AreTables (file : List ℕ) (kept : List Bool) (count at strings_at : ℕ)
+    (strings : List ℕ) : Type 0 where
   pub right : object_fault file ≡ None
   pub headers : HasHeaders file
   pub sections : AreKeptSections file kept
   pub symbols : AreSymbols file count at strings
+  pub stand : StandsAt file strings_at strings

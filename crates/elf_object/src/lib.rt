@@ -17,4 +17,4 @@ mod tables;
 
 pub use entries::kind_of;
 pub use read::read_tables;
-pub use tables::Tables;
+pub use tables::{Run, Tables};

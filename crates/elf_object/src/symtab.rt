@@ -7,7 +7,7 @@ ghost use Rattle.omos_model.specs.ElfFields.{e_shnum, is_symtab, section_bytes, 
 ghost use Rattle.omos_model.specs.ElfFields.{sh_size, symtabs};
 ghost use Rattle.omos_model.specs.ElfFaults.{are_right_symtabs, is_right_symtab, is_strtab};
 ghost use Rattle.elf_object.specs.Stages.{HasHeaders, IsSymbolsFault};
-ghost use Rattle.elf_object.specs.TablesOf.{AreSymbols};
+ghost use Rattle.elf_object.specs.TablesOf.{AreSymbols, StandsAt};
 
 use crate::kept::{is_section, lies_in_file};
 use crate::reads::{bytes_of, count_of_sections, section};
@@ -28,6 +28,8 @@ pub(crate) struct Symbols<'a> {
     pub(crate) at: usize,
     /// Their string table.
     pub(crate) strings: &'a [u8],
+    /// Where the string table begins in the file.
+    pub(crate) strings_at: usize,
 }
 
 /// A section, by its number, that is a symbol table.
@@ -86,12 +88,15 @@ fn lend(file: &[u8], table: usize) -> Symbols<'_>
     ensures count { result.count ≡ sh_size file.now table / 24 }
     ensures at { result.at ≡ sh_offset file.now table }
     ensures strings { result.strings.now ≡ section_bytes file.now (sh_link file.now table) }
+    ensures stand { StandsAt file.now result.strings_at result.strings.now }
 {
     let header = section(file, table);
+    let names = header.sh_link as usize;
     Symbols {
         count: (header.sh_size / SYM_SIZE) as u32,
         at: header.sh_offset as usize,
-        strings: bytes_of(file, header.sh_link as usize),
+        strings: bytes_of(file, names),
+        strings_at: section(file, names).sh_offset as usize,
     }
 }
 
@@ -100,7 +105,8 @@ pub(crate) fn symbols_of(file: &[u8]) -> Result<Symbols<'_>, ObjectFault>
     requires { HasHeaders file.now }
     ensures { MatchResult result
         (λ s. AreSymbols file.now s.count s.at s.strings.now
-        × (are_right_symtabs file.now (symtabs file.now) ≡ true))
+        × (are_right_symtabs file.now (symtabs file.now) ≡ true)
+        × StandsAt file.now s.strings_at s.strings.now)
         (IsSymbolsFault file.now) }
 {
     let Some(table) = only_symtab(file)? else {
@@ -108,6 +114,7 @@ pub(crate) fn symbols_of(file: &[u8]) -> Result<Symbols<'_>, ObjectFault>
             count: 0,
             at: 0,
             strings: &[],
+            strings_at: 0,
         });
     };
     if is_right_symtab(file, table) {

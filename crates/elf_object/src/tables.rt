@@ -3,6 +3,7 @@
 ghost use Rattle.std.specs.Prelude.{◌≡◌, ◌+◌, ◌*◌, ◌/◌, ◌<◌, ◌≤◌, ◌==◌, [], None, IsTrue, length};
 ghost use Rattle.std.specs.Prelude.{if◌then◌else◌};
 ghost use Rattle.omos_base.specs.Fault.{MatchFault};
+ghost use Rattle.omos_base.specs.Runs.{run_of};
 ghost use Rattle.omos_model.specs.Names.{is_symbol_name};
 ghost use Rattle.omos_model.specs.ElfFields.{e_shnum, header_at, name_of, section_bytes, sh_offset};
 ghost use Rattle.omos_model.specs.ElfFields.{is_section, st_info, symbol_at, symbol_count};
@@ -14,13 +15,22 @@ ghost use Rattle.elf_words.specs.Sym.{sym_at};
 ghost use Rattle.elf_object.specs.TablesOf.{AreTables};
 
 use crate::kept::{is_kept, is_nobits};
-use crate::reads::{bytes_of, count_of_sections, section};
+use crate::reads::{count_of_sections, section};
 use crate::relas::{RELA_SIZE, is_used};
 use crate::symbols::{name, symbol};
 use crate::symtab::Symbols;
 use elf_words::{Shdr, Sym};
 use omos_base::Row;
 use std::marker::Model;
+
+/// A run of bytes of a file.
+#[derive(Clone, Copy)]
+pub struct Run {
+    /// Where it begins.
+    pub at: u32,
+    /// How many bytes there are.
+    pub size: u32,
+}
 
 /// The tables of an object file without a fault, that contracts see as the file's bytes. They
 /// lend these bytes; nothing is copied.
@@ -42,13 +52,15 @@ impl<'a> Model for Tables<'a> {
     ghost view = { λ t. t.file.now };
 
     ghost invariant = { λ t.
-        AreTables t.file.now t.kept t.symbols.count t.symbols.at t.symbols.strings.now };
+        AreTables t.file.now t.kept t.symbols.count
+        t.symbols.at t.symbols.strings_at t.symbols.strings.now };
 }
 
 impl<'a> Tables<'a> {
     /// The tables of a file that was found to have no fault.
     pub(crate) fn of(file: &'a [u8], kept: Row<bool>, symbols: Symbols<'a>) -> Tables<'a>
-        requires { AreTables file.now kept symbols.count symbols.at symbols.strings.now }
+        requires { AreTables file.now kept symbols.count
+            symbols.at symbols.strings_at symbols.strings.now }
         ensures { result ≡ file.now }
     {
         Tables {
@@ -64,6 +76,7 @@ impl Tables<'_> {
     pub fn file(&self) -> &[u8]
         ensures bytes { result.now ≡ self.now }
         ensures right { object_fault self.now ≡ None }
+        ensures small { length self.now ≤ 1048576 }
     {
         self.file
     }
@@ -92,15 +105,20 @@ impl Tables<'_> {
         is_kept(self.file, self.kept.as_slice(), i as usize)
     }
 
-    /// The bytes of a kept section, none where it is NOBITS.
-    pub fn bytes(&self, i: u32) -> &[u8]
+    /// Where the bytes of a kept section stand, none where it is NOBITS.
+    pub fn bytes_at(&self, i: u32) -> Run
         requires { IsTrue (is_kept self.now i) }
-        ensures { result.now ≡ (if is_nobits self.now i then [] else section_bytes self.now i) }
+        ensures bytes { run_of result.at result.size self.now
+            ≡ (if is_nobits self.now i then [] else section_bytes self.now i) }
+        ensures inside { result.at + result.size ≤ length self.now }
     {
         if is_nobits(self.file, i as usize) {
-            &[]
-        } else {
-            bytes_of(self.file, i as usize)
+            return Run { at: 0, size: 0 };
+        }
+        let header = section(self.file, i as usize);
+        Run {
+            at: header.sh_offset as u32,
+            size: header.sh_size as u32,
         }
     }
 
@@ -121,15 +139,21 @@ impl Tables<'_> {
         symbol(self.file, self.symbols, k)
     }
 
-    /// The name of a GLOBAL or WEAK symbol, which is a symbol name. It costs the name's bytes.
-    pub fn name(&self, k: u32) -> &[u8]
+    /// Where the name of a GLOBAL or WEAK symbol stands, which is a symbol name. It costs the
+    /// name's bytes.
+    pub fn name_at(&self, k: u32) -> Run
         requires counted { 1 ≤ k }
         requires there { k < symbol_count self.now }
         requires named { IsTrue (has_name self.now k) }
-        ensures name { result.now ≡ name_of self.now k }
-        ensures lawful { IsTrue (is_symbol_name result.now) }
+        ensures name { run_of result.at result.size self.now ≡ name_of self.now k }
+        ensures lawful { IsTrue (is_symbol_name (name_of self.now k)) }
+        ensures inside { result.at + result.size ≤ length self.now }
     {
-        name(self.file, self.symbols, k)
+        let name = name(self.file, self.symbols, k);
+        Run {
+            at: self.symbols.strings_at as u32 + symbol(self.file, self.symbols, k).st_name,
+            size: name.len() as u32,
+        }
     }
 
     /// Whether a section has relocations of a kept section.

@@ -7,13 +7,14 @@ ghost use Rattle.fragment_read.specs.inside.Numbered.{AreSymbolNames, name_if};
 
 use crate::symbols::has_name;
 use elf_object::Tables;
-use omos_base::{Fault, NoMemory, Row, SymName};
+use omos_base::{NoMemory, Part, Row, SymName};
 use omos_model::laws;
 use std::alloc::Global;
 
-/// The name of a symbol that has one.
-fn name_if(alloc: Global, tables: &Tables<'_>, k: u32) -> Result<Option<SymName>, NoMemory>
+/// The name of a symbol that has one: a run of the file's bytes, which were tested.
+fn name_if(file: &Part, tables: &Tables<'_>, k: u32) -> Result<Option<SymName>, NoMemory>
     requires right { object_fault tables.now ≡ None }
+    requires same { file.now ≡ tables.now }
     requires counted { 1 ≤ k }
     requires there { k < symbol_count tables.now }
     ensures { IfOk result (λ name. name ≡ name_if tables.now k) }
@@ -22,11 +23,8 @@ fn name_if(alloc: Global, tables: &Tables<'_>, k: u32) -> Result<Option<SymName>
         return Ok(None);
     }
     laws::names_are_tested();
-    match SymName::read(alloc, tables.name(k)) {
-        Ok(name) => Ok(Some(name)),
-        Err(Fault::NoMemory) => Err(NoMemory),
-        Err(Fault::Refused(_)) => unreachable!(),
-    }
+    let name = tables.name_at(k);
+    Ok(Some(SymName::of(file.cut(name.at, name.size)?)))
 }
 
 /// The name of a symbol that has one, among those of all.
@@ -43,10 +41,15 @@ pub(crate) fn name_at<'a>(tables: &Tables<'_>, names: &'a [Option<SymName>], k: 
     name
 }
 
-/// By a symbol's number its name, where it has one. Each owns its bytes.
+/// By a symbol's number its name, where it has one, whose bytes are the file's.
 #[inline(never)]
-pub(crate) fn names(alloc: Global, tables: &Tables<'_>) -> Result<Row<Option<SymName>>, NoMemory>
-    requires { object_fault tables.now ≡ None }
+pub(crate) fn names(
+    alloc: Global,
+    file: &Part,
+    tables: &Tables<'_>,
+) -> Result<Row<Option<SymName>>, NoMemory>
+    requires right { object_fault tables.now ≡ None }
+    requires same { file.now ≡ tables.now }
     ensures { IfOk result (λ names. AreSymbolNames tables.now names) }
 {
     let mut names = Row::from_vec(Vec::with_capacity(alloc, tables.symbols() as usize)?);
@@ -55,7 +58,7 @@ pub(crate) fn names(alloc: Global, tables: &Tables<'_>) -> Result<Row<Option<Sym
     }
     names.push(None)?;
     for k in 1..tables.symbols() {
-        names.push(name_if(alloc, tables, k)?)?;
+        names.push(name_if(file, tables, k)?)?;
     }
     Ok(names)
 }

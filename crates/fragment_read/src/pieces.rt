@@ -11,7 +11,7 @@ ghost use Rattle.omos_model.specs.FragmentOf.{piece_of_common, piece_of_section,
 use crate::symbols::is_common;
 use elf_object::Tables;
 use elf_words::values::{SHF_EXECINSTR, SHF_WRITE, SHT_NOBITS};
-use omos_base::{Bytes, NoMemory, Row};
+use omos_base::{NoMemory, Part, Row};
 use omos_model::{Group, Piece};
 use std::alloc::Global;
 
@@ -48,70 +48,86 @@ fn alignment_of(align: u64) -> u32
     if align == 0 { 1 } else { align as u32 }
 }
 
-fn piece_of_section(alloc: Global, tables: &Tables<'_>, i: u32) -> Result<Piece, NoMemory>
+fn piece_of_section(file: &Part, tables: &Tables<'_>, i: u32) -> Result<Piece, NoMemory>
     requires right { object_fault tables.now ≡ None }
+    requires same { file.now ≡ tables.now }
     requires kept { IsTrue (is_kept tables.now i) }
     ensures { IfOk result (λ p. p ≡ piece_of_section tables.now i) }
 {
     let header = tables.header(i);
+    let bytes = tables.bytes_at(i);
     Ok(Piece {
         group: group_of(tables, i),
         align: alignment_of(header.sh_addralign),
         size: header.sh_size as u32,
-        bytes: Bytes::from_slice(alloc, tables.bytes(i))?,
+        bytes: file.cut(bytes.at, bytes.size)?,
     })
 }
 
-fn section_pieces(alloc: Global, tables: &Tables<'_>) -> Result<Row<Piece>, NoMemory>
-    requires { object_fault tables.now ≡ None }
+fn section_pieces(
+    alloc: Global,
+    file: &Part,
+    tables: &Tables<'_>,
+) -> Result<Row<Piece>, NoMemory>
+    requires right { object_fault tables.now ≡ None }
+    requires same { file.now ≡ tables.now }
     ensures { IfOk result
         (λ ps. ps ≡ map (piece_of_section tables.now) (kept_sections tables.now)) }
 {
     let mut pieces = Row::new(alloc);
     for i in 1..tables.sections() {
         if tables.kept(i) {
-            pieces.push(piece_of_section(alloc, tables, i)?)?;
+            pieces.push(piece_of_section(file, tables, i)?)?;
         }
     }
     Ok(pieces)
 }
 
-/// The zeros of a common symbol, whose value is its alignment.
-fn piece_of_common(alloc: Global, tables: &Tables<'_>, k: u32) -> Piece
+/// The zeros of a common symbol, whose value is its alignment. They have no bytes in the file.
+fn piece_of_common(file: &Part, tables: &Tables<'_>, k: u32) -> Result<Piece, NoMemory>
     requires right { object_fault tables.now ≡ None }
     requires counted { 1 ≤ k }
     requires there { k < symbol_count tables.now }
     requires common { IsTrue (is_common tables.now k) }
-    ensures { result ≡ piece_of_common tables.now k }
+    ensures { IfOk result (λ p. p ≡ piece_of_common tables.now k) }
 {
     let symbol = tables.symbol(k);
-    Piece {
+    Ok(Piece {
         group: Group::Zeros,
         align: alignment_of(symbol.st_value),
         size: symbol.st_size as u32,
-        bytes: Bytes::new(alloc),
-    }
+        bytes: file.cut(0, 0)?,
+    })
 }
 
-fn push_commons(alloc: Global, tables: &Tables<'_>, pieces: &mut Row<Piece>) -> Result<(), NoMemory>
+fn push_commons(
+    file: &Part,
+    tables: &Tables<'_>,
+    pieces: &mut Row<Piece>,
+) -> Result<(), NoMemory>
     requires { object_fault tables.now ≡ None }
     ensures { OnOk result (pieces.new ≡ pieces.old
         ++ map (piece_of_common tables.now) (filter (is_common tables.now) (symbols tables.now))) }
 {
     for k in 1..tables.symbols() {
         if is_common(tables, k) {
-            pieces.push(piece_of_common(alloc, tables, k))?;
+            pieces.push(piece_of_common(file, tables, k)?)?;
         }
     }
     Ok(())
 }
 
-/// The pieces of an object file. Their bytes are copied.
-pub(crate) fn pieces(alloc: Global, tables: &Tables<'_>) -> Result<Row<Piece>, NoMemory>
-    requires { object_fault tables.now ≡ None }
+/// The pieces of an object file. Their bytes are the file's.
+pub(crate) fn pieces(
+    alloc: Global,
+    file: &Part,
+    tables: &Tables<'_>,
+) -> Result<Row<Piece>, NoMemory>
+    requires right { object_fault tables.now ≡ None }
+    requires same { file.now ≡ tables.now }
     ensures { IfOk result (λ ps. ps ≡ pieces_of tables.now) }
 {
-    let mut pieces = section_pieces(alloc, tables)?;
-    push_commons(alloc, tables, &mut pieces)?;
+    let mut pieces = section_pieces(alloc, file, tables)?;
+    push_commons(file, tables, &mut pieces)?;
     Ok(pieces)
 }

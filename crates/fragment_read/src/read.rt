@@ -11,7 +11,7 @@ use crate::names::names;
 use crate::numbers::{kept_count, piece_numbers};
 use crate::pieces::pieces;
 use elf_object::{Tables, read_tables};
-use omos_base::{Fault, NoMemory};
+use omos_base::{Fault, NoMemory, Part};
 use omos_model::{Fragment, ObjectFault, laws};
 use std::alloc::Global;
 
@@ -19,9 +19,10 @@ fn parts_of_file(alloc: Global, tables: &Tables<'_>) -> Result<Fragment, NoMemor
     requires { object_fault tables.now ≡ None }
     ensures { IfOk result (λ f. f ≡ parts_of_file tables.now) }
 {
+    let file = Part::from_slice(alloc, tables.file())?;
     let numbers = piece_numbers(alloc, tables)?;
-    let names = names(alloc, tables)?;
-    let pieces = pieces(alloc, tables)?;
+    let names = names(alloc, &file, tables)?;
+    let pieces = pieces(alloc, &file, tables)?;
     let first_common = kept_count(tables);
     let exports = exports(
         alloc,
@@ -37,8 +38,9 @@ fn parts_of_file(alloc: Global, tables: &Tables<'_>) -> Result<Fragment, NoMemor
 
 /// The fragment of an object file, or its first fault, O1 to O11.
 ///
-/// The bytes of its sections and names are copied, each once. It costs the file's tables, and a
-/// look-up among the exports for each of them.
+/// The file is copied once, and its names and the bytes of its sections are runs of that copy,
+/// whatever they have in common. It costs the file's tables, and a look-up among the exports for
+/// each of them.
 pub fn fragment(alloc: Global, file: &[u8]) -> Result<Fragment, Fault<ObjectFault>>
     ensures { MatchFault result
         (λ f. fragment_of file.now ≡ Ok f) (λ x. fragment_of file.now ≡ Err x) }

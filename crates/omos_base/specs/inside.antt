@@ -1,2 +1,1 @@
 pub mod PackedBytes
-pub mod Spans

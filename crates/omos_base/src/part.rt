@@ -1,6 +1,7 @@
 //! A run of bytes of a block that has several owners.
 
-ghost use Rattle.std.specs.Prelude.{◌≡◌, ◌+◌, ◌<◌, ◌≤◌, ◌^◌, take, drop, length, IfOk};
+ghost use Rattle.std.specs.Prelude.{◌≡◌, ◌+◌, ◌<◌, ◌≤◌, ◌^◌, length, IfOk};
+ghost use Rattle.omos_base.specs.Runs.{run_of};
 
 use crate::bytes::Bytes;
 use crate::fault::NoMemory;
@@ -20,11 +21,11 @@ pub struct Part {
 
 impl Model for Part {
     ghost use Rattle.std.specs.Prelude.{List, ℕ, ◌+◌, ◌^◌, ◌<◌, ◌≤◌, length};
-    ghost use Rattle.omos_base.specs.inside.Spans.{span};
+    ghost use Rattle.omos_base.specs.Runs.{run_of};
 
     ghost Value = { List ℕ };
 
-    ghost view = { λ part. span part.at part.size part.block };
+    ghost view = { λ part. run_of part.at part.size part.block };
 
     ghost invariant = { λ part.
         (part.at + part.size ≤ length part.block) × (part.at + part.size < 2 ^ 32) };
@@ -62,7 +63,7 @@ impl Part {
     /// So many of its bytes from a place on, as one more owner of the block. None is copied.
     pub fn cut(&self, at: u32, size: u32) -> Result<Part, NoMemory>
         requires { at + size ≤ length self.now }
-        ensures { IfOk result (λ part. part ≡ take size (drop at self.now)) }
+        ensures { IfOk result (λ part. part ≡ run_of at size self.now) }
     {
         Ok(Part {
             block: self.block.twin()?,

@@ -7,7 +7,7 @@ ghost use Rattle.omos_model.specs.FragmentParts.{parts_of, is_fragment, IsFragme
 ghost use Rattle.omos_model.specs.FragmentParts.{are_distinct};
 ghost use Rattle.omos_model.specs.FragmentParts.{is_piece, is_spot, is_fixup, is_zeros, width};
 
-use omos_base::{Bytes, Fault, NoMemory, Row, SymName};
+use omos_base::{Fault, NoMemory, Part, Row, SymName};
 use std::alloc::Global;
 use std::collections::BTreeSet;
 use std::marker::Model;
@@ -35,7 +35,7 @@ pub struct Piece {
     /// In bytes, at most 8,388,608.
     pub size: u32,
     /// As many as the size, or none where the group is Zeros.
-    pub bytes: Bytes,
+    pub bytes: Part,
 }
 
 /// A place in a fragment, or a number.

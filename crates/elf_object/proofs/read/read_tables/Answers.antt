@@ -63,4 +63,5 @@ of-requires c =
       headers = c.in_default.ensures;
       sections = c.in_ok-kept.ensures;
       symbols = c.in-Ok.ensures.0;
+      stand = c.in-Ok.ensures.2;
     }

@@ -25,4 +25,5 @@ returns-then-is_right_symtab c =
       rw (c.lend.ensures.count, c.lend.ensures.at, c.lend.ensures.strings)
           (symbols_of_table file table e right),
       right_one file table e right,
+      c.lend.ensures.stand,
     )

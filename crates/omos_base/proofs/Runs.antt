@@ -2,11 +2,11 @@
 use Rattle.std.proofs.Common.{◌≡◌, ℕ, ◌+◌, ◌-◌, ◌≤◌, List, take, drop, length, ap, ◌∙◌}
 use Rattle.std.proofs.Common.{arith}
 use Rattle.std.proofs.lemmas.List.{drop-drop, drop-take, length-drop, length-take-le, take-take}
-use Rattle.omos_base.specs.inside.Spans.{span}
+use Rattle.omos_base.specs.Runs.{run_of}
 
-pub span_of_span : (block : List ℕ) (begin all at size : ℕ) → at + size ≤ all
-    → span at size (span begin all block) ≡ span (begin + at) size block
-span_of_span block begin all at size within =
+pub run_of_run : (block : List ℕ) (begin all at size : ℕ) → at + size ≤ all
+    → run_of at size (run_of begin all block) ≡ run_of (begin + at) size block
+run_of_run block begin all at size within =
     let whole : all ≡ at + (all - at) = omega (arith, within) in
     let rest = drop begin block in
     ap (λ n. take size (drop at (take n rest))) whole
@@ -15,8 +15,8 @@ span_of_span block begin all at size within =
     ∙ ap (take size) (drop-drop at begin block)
 
 -- as many bytes are in it as it says
-pub length_span : (block : List ℕ) (at size : ℕ) → at + size ≤ length block
-    → length (span at size block) ≡ size
-length_span block at size within =
+pub length_run : (block : List ℕ) (at size : ℕ) → at + size ≤ length block
+    → length (run_of at size block) ≡ size
+length_run block at size within =
     let rest = length-drop at block in
     length-take-le size (drop at block) (omega (arith, rest, within))
