@@ -13,4 +13,4 @@ mod read;
 mod spots;
 mod symbols;
 
-pub use read::fragment;
+pub use read::{fragment, fragment_in};

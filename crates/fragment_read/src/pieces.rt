@@ -64,11 +64,7 @@ fn piece_of_section(file: &Part, tables: &Tables<'_>, i: u32) -> Result<Piece, N
     })
 }
 
-fn section_pieces(
-    alloc: Global,
-    file: &Part,
-    tables: &Tables<'_>,
-) -> Result<Row<Piece>, NoMemory>
+fn section_pieces(alloc: Global, file: &Part, tables: &Tables<'_>) -> Result<Row<Piece>, NoMemory>
     requires right { object_fault tables.now ≡ None }
     requires same { file.now ≡ tables.now }
     ensures { IfOk result
@@ -100,11 +96,7 @@ fn piece_of_common(file: &Part, tables: &Tables<'_>, k: u32) -> Result<Piece, No
     })
 }
 
-fn push_commons(
-    file: &Part,
-    tables: &Tables<'_>,
-    pieces: &mut Row<Piece>,
-) -> Result<(), NoMemory>
+fn push_commons(file: &Part, tables: &Tables<'_>, pieces: &mut Row<Piece>) -> Result<(), NoMemory>
     requires { object_fault tables.now ≡ None }
     ensures { OnOk result (pieces.new ≡ pieces.old
         ++ map (piece_of_common tables.now) (filter (is_common tables.now) (symbols tables.now))) }

@@ -15,14 +15,14 @@ use omos_base::{Fault, NoMemory, Part};
 use omos_model::{Fragment, ObjectFault, laws};
 use std::alloc::Global;
 
-fn parts_of_file(alloc: Global, tables: &Tables<'_>) -> Result<Fragment, NoMemory>
-    requires { object_fault tables.now ≡ None }
+fn parts_of_file(alloc: Global, file: &Part, tables: &Tables<'_>) -> Result<Fragment, NoMemory>
+    requires right { object_fault tables.now ≡ None }
+    requires same { file.now ≡ tables.now }
     ensures { IfOk result (λ f. f ≡ parts_of_file tables.now) }
 {
-    let file = Part::from_slice(alloc, tables.file())?;
     let numbers = piece_numbers(alloc, tables)?;
-    let names = names(alloc, &file, tables)?;
-    let pieces = pieces(alloc, &file, tables)?;
+    let names = names(alloc, file, tables)?;
+    let pieces = pieces(alloc, file, tables)?;
     let first_common = kept_count(tables);
     let exports = exports(
         alloc,
@@ -46,7 +46,22 @@ pub fn fragment(alloc: Global, file: &[u8]) -> Result<Fragment, Fault<ObjectFaul
         (λ f. fragment_of file.now ≡ Ok f) (λ x. fragment_of file.now ≡ Err x) }
 {
     match read_tables(alloc, file) {
-        Ok(tables) => Ok(parts_of_file(alloc, &tables)?),
+        Ok(tables) => {
+            let copy = Part::from_slice(alloc, tables.file())?;
+            Ok(parts_of_file(alloc, &copy, &tables)?)
+        }
+        Err(fault) => Err(fault),
+    }
+}
+
+/// The fragment of an object file, as `fragment` reads it. Its names and the bytes of its sections
+/// are runs of the file that is given, which is not copied.
+pub fn fragment_in(alloc: Global, file: &Part) -> Result<Fragment, Fault<ObjectFault>>
+    ensures { MatchFault result
+        (λ f. fragment_of file.now ≡ Ok f) (λ x. fragment_of file.now ≡ Err x) }
+{
+    match read_tables(alloc, file.as_slice()) {
+        Ok(tables) => Ok(parts_of_file(alloc, file, &tables)?),
         Err(fault) => Err(fault),
     }
 }

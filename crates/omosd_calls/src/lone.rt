@@ -1,15 +1,15 @@
 //! The image of one object that stands alone.
 
-ghost use Rattle.std.specs.Prelude.{◌≡◌, IfOk, Ok, Err};
+ghost use Rattle.std.specs.Prelude.{◌≡◌, ◌≤◌, IfOk, Ok, Err, length};
 ghost use Rattle.omos_base.specs.Fault.{MatchFault};
 ghost use Rattle.link_model.specs.Module.{alone};
 ghost use Rattle.omosd_calls.specs.Lone.{lone_answer, lone_path};
 
 use crate::cause::Cause;
-use fragment_read::fragment;
+use fragment_read::fragment_in;
 use image_write::image_at;
 use link_model::Evaluated;
-use omos_base::{Bytes, Fault, NoMemory, PathName, Shared};
+use omos_base::{Bytes, Fault, NoMemory, Part, PathName, Shared};
 use omos_model::{Entry, Fragment};
 use seeded_hash::Seed;
 use std::alloc::Global;
@@ -35,12 +35,14 @@ fn evaluate(alloc: Global, seed: Seed, fragment: Fragment) -> Result<Evaluated, 
     module_land::lone(alloc, seed, lone_path(), entry)
 }
 
-/// The image of a file's object, or why it has none. The table of its names hashes by the seed.
-pub(crate) fn lone_image(alloc: Global, seed: Seed, file: &[u8]) -> Result<Bytes, Fault<Cause>>
+/// The image of a file's object, or why it has none. The file isn't copied. The table of its names
+/// hashes by the seed.
+pub(crate) fn lone_image(alloc: Global, seed: Seed, file: Bytes) -> Result<Bytes, Fault<Cause>>
+    requires { length file ≤ 1048577 }
     ensures { MatchFault result
-        (λ image. lone_answer file.now ≡ Ok image) (λ cause. lone_answer file.now ≡ Err cause) }
+        (λ image. lone_answer file ≡ Ok image) (λ cause. lone_answer file ≡ Err cause) }
 {
-    let fragment = match fragment(alloc, file) {
+    let fragment = match fragment_in(alloc, &Part::of(alloc, file)?) {
         Ok(fragment) => fragment,
         Err(Fault::Refused(fault)) => return Err(Fault::Refused(Cause::Object(fault))),
         Err(Fault::NoMemory) => return Err(Fault::NoMemory),

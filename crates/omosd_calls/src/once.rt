@@ -13,7 +13,7 @@ use crate::ending::Ending;
 use crate::lone::lone_image;
 use crate::reading::{Unread, read_file};
 use crate::words::is_once;
-use omos_base::Fault;
+use omos_base::{Bytes, Fault};
 use omos_outside::{Sent, Sink, Source, write_all};
 use seeded_hash::Seed;
 use std::alloc::Global;
@@ -32,8 +32,9 @@ fn write_line<K: Sink>(cause: &Cause, sink: &mut K) -> Ending
 }
 
 /// Writes the image of a file, or why it has none.
-fn answer_file<K: Sink>(alloc: Global, seed: Seed, file: &[u8], sink: &mut K) -> Ending
-    ensures answer { Answered result file.now (K.held sink.old) (K.held sink.new) }
+fn answer_file<K: Sink>(alloc: Global, seed: Seed, file: Bytes, sink: &mut K) -> Ending
+    requires { length file ≤ 1048577 }
+    ensures answer { Answered result file (K.held sink.old) (K.held sink.new) }
     ensures later { K.faults sink.old ≤ K.faults sink.new }
     ensures failed { result ≡ Ending.SinkFailed → Rose (K.faults sink.old) (K.faults sink.new) }
     ensures no_memory { result ≡ Ending.NoMemory → sink.new ≡ sink.old }
@@ -98,7 +99,7 @@ pub fn omosd_once<S: Source, K: Sink>(
         return Ending::Usage.status();
     }
     match read_file(alloc, source) {
-        Ok(file) => answer_file(alloc, seed, file.as_slice(), sink).status(),
+        Ok(file) => answer_file(alloc, seed, file, sink).status(),
         Err(Unread::SourceFailed) => Ending::SourceFailed.status(),
         Err(Unread::NoMemory) => Ending::NoMemory.status(),
     }

@@ -1,4 +1,4 @@
-use Rattle.std.proofs.Common.{◌≡◌, ap, ◌∙◌, arith, length, List, [], ◌∷◌, Option}
+use Rattle.std.proofs.Common.{ap, ◌∙◌, arith, length, List, [], ◌∷◌, Option}
 use Rattle.std.specs.List.{slice_get}
 use Rattle.std.proofs.lemmas.List.{length-append}
 use Rattle.omos_model.specs.Names.{Name}

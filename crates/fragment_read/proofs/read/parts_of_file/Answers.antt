@@ -19,4 +19,4 @@ from_parts-requires c =
     ∙ ap (λ (xs : List Fixup). parts_of (pieces_of file) (exports_of file) xs)
     c.in_ok-fixups.ensures in
     subst (λ (f : FragmentParts). is_fragment f ≡ true) (sym whole)
-    (lawful file c.files_hold_fragments.ensures c.requires)
+    (lawful file c.files_hold_fragments.ensures c.requires.right)

@@ -8,7 +8,7 @@ use Rattle.omosd_calls.specs.Lone.{IsLoneImage, IsRefusalLine}
 
 pub returns-in-Ok-clause-refused : goal.returns-in-Ok-clause-refused
 returns-in-Ok-clause-refused g c = λ one.
-    let answer = rw c.as_slice.ensures at c.answer_file.ensures.answer in (
+    let answer = c.answer_file.ensures.answer in (
       c.in-Ok.file,
       c.in-Ok.ensures.input,
       answered_as Refused _ c.in-Ok.file _ _ (sym c.status-in-Ok.ensures ∙ one) answer,
@@ -16,7 +16,7 @@ returns-in-Ok-clause-refused g c = λ one.
 
 pub returns-in-Ok-clause-part : goal.returns-in-Ok-clause-part
 returns-in-Ok-clause-part g c = λ four.
-    let answer = rw c.as_slice.ensures at c.answer_file.ensures.answer in (
+    let answer = c.answer_file.ensures.answer in (
       c.in-Ok.file,
       c.in-Ok.ensures.input,
       answered_as SinkFailed _ c.in-Ok.file _ _ (sym c.status-in-Ok.ensures ∙ four) answer,
@@ -24,14 +24,14 @@ returns-in-Ok-clause-part g c = λ four.
 
 pub returns-in-Ok-clause-done_where : goal.returns-in-Ok-clause-done_where
 returns-in-Ok-clause-done_where g c = λ file output once input image told.
-    let answer = rw c.as_slice.ensures at c.answer_file.ensures.answer in
+    let answer = c.answer_file.ensures.answer in
     let same = told_file _ _ file c.in-Ok.file input c.in-Ok.ensures.input in
     let here = subst (λ (f : List ℕ). IsLoneImage f output) same image in
     c.status-in-Ok.ensures ∙ ap status_of (ended_done _ c.in-Ok.file _ _ output answer here told)
 
 pub returns-in-Ok-clause-refused_where : goal.returns-in-Ok-clause-refused_where
 returns-in-Ok-clause-refused_where g c = λ file output once input refusal told.
-    let answer = rw c.as_slice.ensures at c.answer_file.ensures.answer in
+    let answer = c.answer_file.ensures.answer in
     let same = told_file _ _ file c.in-Ok.file input c.in-Ok.ensures.input in
     let here = subst (λ (f : List ℕ). IsRefusalLine f output) same refusal in
     c.status-in-Ok.ensures ∙ ap status_of (ended_refused _ c.in-Ok.file _ _ output answer here told)
