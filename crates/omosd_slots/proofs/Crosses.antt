@@ -13,6 +13,7 @@ use Rattle.history_book.below.arrayvec.proofs.array_vec.ArrayVec.TheSendSync as 
 use Rattle.history_book.below.arrayvec.proofs.cells.Cells.TheSendSync as cells_crosses
 use Rattle.omos_base.proofs.bytes.Bytes.TheSendSync as bytes_crosses
 use Rattle.omos_base.proofs.packed.Packed.TheSendSync as packed_crosses
+use Rattle.omos_base.proofs.part.Part.TheSendSync as part_crosses
 use Rattle.omos_base.proofs.path_name.PathName.TheSendSync as pathname_crosses
 use Rattle.omos_base.proofs.row.Row.TheSendSync as row_crosses
 use Rattle.omos_base.proofs.shared.Shared.TheSendSync as shared_crosses
@@ -76,6 +77,8 @@ ruleset crossing = (
   bytes_crosses.the_sync,
   packed_crosses.the_send,
   packed_crosses.the_sync,
+  part_crosses.the_send,
+  part_crosses.the_sync,
   pathname_crosses.the_send,
   pathname_crosses.the_sync,
   row_crosses.the_send,
