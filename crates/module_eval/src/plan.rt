@@ -25,7 +25,8 @@ use seeded_hash::Seed;
 use sqlite_items::Items;
 use std::alloc::Global;
 
-/// After so many steps no more is counted. An expansion of more nodes is refused.
+/// After so many steps no more is counted, and each table is kept. All that an expansion within its
+/// limits names takes fewer.
 const MAX_STEPS: u32 = 16_384;
 
 /// What is known of the uses that paths will have.
@@ -47,7 +48,8 @@ fn count<'a>(
     counts: &mut IndexMap<ReadPath<'a>, u32, Seed>,
     waiting: &mut Items<Operands<'a>>,
 ) -> Result<(), NoMemory>
-    requires { AreCounts snap.now.entries (with_uses times path.now) counts.old.entries waiting.old }
+    requires { AreCounts snap.now.entries (with_uses times path.now) counts.old.entries
+        waiting.old }
     ensures counts { OnOk result
         (AreCounts snap.now.entries never counts.new.entries waiting.new) }
     ensures here { OnOk result (IsCounted counts.new.entries path.now) }
