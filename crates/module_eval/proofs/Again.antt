@@ -1,6 +1,6 @@
 -- A blueprint whose table is kept, and used again.
-use Rattle.std.proofs.Common.{◌≡◌, ◌∙◌, ℕ, ◌+◌, ◌-◌, ◌<◌, ◌%◌, Bool, true, false, cond, List, []}
-use Rattle.std.proofs.Common.{◌∷◌, Some, Result, Ok, Err, refl, sym, ap, subst, length, arith}
+use Rattle.std.proofs.Common.{◌≡◌, ◌∙◌, ℕ, ◌+◌, ◌-◌, ◌<◌, ◌≤◌, ◌%◌, Bool, true, false, cond, List, []}
+use Rattle.std.proofs.Common.{◌∷◌, Option, Some, None, Result, Ok, Err, refl, sym, ap, subst, length, arith}
 use Rattle.std.specs.Prelude.{IfSome}
 use Rattle.std.specs.Map.{lookup}
 use Rattle.indexmap.specs.IndexMap.{insert_entry}
@@ -24,8 +24,10 @@ use Rattle.module_table.specs.Stands.{StandsFor}
 use Rattle.module_table.specs.TableParts.{TableParts}
 use Rattle.module_eval.specs.inside.Kept.{AreKept, IsKept, IsRun, StandsOr}
 use Rattle.module_eval.specs.inside.Meant.{IsBuilt, Means}
+use Rattle.module_eval.specs.inside.Times.{moved, moved_in, once, spent}
 use Rattle.module_eval.specs.inside.Walked.{tree_in}
 use Rattle.module_eval.specs.declared.memo.Kept.{Kept}
+use Rattle.module_eval.proofs.Planned.{looked_up}
 use Rattle.module_eval.specs.declared.part.Part.{Part}
 use Rattle.module_eval.specs.declared.part.Part.TheVariants.{Built, Failed}
 
@@ -111,22 +113,30 @@ same_run ns path first second k t u once run number =
 
 pub again_means : (ns : Space) (path : Name) (kept : Kept) (first k : ℕ) (t : Term)
     (old table : TableParts) → IsKept ns path kept → IsRun ns path first t
-    → kept.built ≡ Ok old → first ≡ raised k kept.first → IsInstance k old table
+    → kept.built ≡ Some (Ok old) → first ≡ raised k kept.first → IsInstance k old table
     → Means false (Built table) t
 again_means ns path kept first k t old table h run there number instance =
-    let stands = subst (λ (o : Result TableParts Refusal). StandsOr o h.term) there h.stands in
+    let stands = subst (λ (o : Option (Result TableParts Refusal)). StandsOr o h.term) there h.stands in
     let same = same_run ns path kept.first first k h.term t h.run run number in (
       subst (λ (u : Term). StandsFor table u) (sym same) (instance h.term stands.0),
       ap first_refusal same ∙ first_refusal_shifted k h.term ∙ stands.1,
     )
 
 pub again_failed : (ns : Space) (path : Name) (kept : Kept) (first k : ℕ) (t : Term) (x : Refusal)
-    → IsKept ns path kept → IsRun ns path first t → kept.built ≡ Err x → first ≡ raised k kept.first
+    → IsKept ns path kept → IsRun ns path first t → kept.built ≡ Some (Err x)
+    → first ≡ raised k kept.first
     → Means false (Failed x) t
 again_failed ns path kept first k t x h run there number =
-    let stands = subst (λ (o : Result TableParts Refusal). StandsOr o h.term) there h.stands in
+    let stands = subst (λ (o : Option (Result TableParts Refusal)). StandsOr o h.term) there h.stands in
     let same = same_run ns path kept.first first k h.term t h.run run number in
     ap first_refusal same ∙ first_refusal_shifted k h.term ∙ stands
+
+-- a table that is gone is wanted only where nodes are counted
+pub only_counting : (counting : Bool) (built : Option (Result TableParts Refusal))
+    → built ≡ None → (counting ≡ false → moved built ≡ 0) → counting ≡ true
+only_counting true built is left = refl
+only_counting false built is left =
+    let one = ap moved is in let none = left refl in absurd (omega (arith, one, none))
 
 -- the number of any leaf comes from that of any other
 pub shift_to : (first before : ℕ) → first < 4294967296 → before < 4294967296
@@ -144,3 +154,31 @@ own_means ns path first part table own t few is instance h run =
     let k = is false t h in
     let same = same_run ns path first first 0 t t run run (unshifted first few) in
     (subst (λ (u : Term). StandsFor own u) (sym same) (instance t k.0), k.1)
+
+-- ---- tables that are gone
+
+moved_few : (built : Option (Result TableParts Refusal)) → moved built ≤ 1
+moved_few None = omega arith
+moved_few (Some r) = omega arith
+
+pub inserted_spent : (all : List (Name × Kept)) (p : Name) (kept : Kept) (q : Name)
+    → spent (insert_entry same_name all p kept) q ≤ spent all q + once q p
+inserted_spent all p kept q = go (same_name q p) (ap moved_in (looked_up all p q kept))
+  where
+    go : (b : Bool) → spent (insert_entry same_name all p kept) q
+        ≡ moved_in (cond b (Some kept) (lookup (same_name q) all))
+        → spent (insert_entry same_name all p kept) q ≤ spent all q + cond b 1 0
+    go true e = let few = moved_few kept.built in omega (arith, e, few)
+    go false e = omega (arith, e)
+
+pub inserted_unspent : (all : List (Name × Kept)) (p : Name) (kept : Kept)
+    → moved kept.built ≡ 0 → (q : Name)
+    → spent (insert_entry same_name all p kept) q ≤ spent all q
+inserted_unspent all p kept none q =
+    go (same_name q p) (ap moved_in (looked_up all p q kept))
+  where
+    go : (b : Bool) → spent (insert_entry same_name all p kept) q
+        ≡ moved_in (cond b (Some kept) (lookup (same_name q) all))
+        → spent (insert_entry same_name all p kept) q ≤ spent all q
+    go true e = omega (arith, e, none)
+    go false e = omega (arith, e)

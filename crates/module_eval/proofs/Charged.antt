@@ -57,3 +57,7 @@ pub on_ok_both : {X E : Type 0} (r : Result X E) (P Q R : Type 0) → (P → Q �
     → OnOk r R
 on_ok_both (Ok x) P Q R f h k = f h k
 on_ok_both (Err e) P Q R f h k = tt
+
+pub ok_all : {X E : Type 0} (r : Result X E) (P : Type 0) → P → OnOk r P
+ok_all (Ok x) P h = h
+ok_all (Err e) P h = tt

@@ -9,6 +9,7 @@ use Rattle.omos_model.specs.Namespace.{Space, look_up}
 use Rattle.omos_model.specs.declared.entry.Stamped.{Stamped}
 use Rattle.module_eval.specs.Costs.{IsReadAlone, StayRead, is_built}
 use Rattle.module_eval.specs.inside.Found.{AreFound}
+use Rattle.module_eval.specs.inside.Plans.{AreSpent}
 use Rattle.module_eval.specs.inside.Walks.{ComesBack, CountOn, MayGoOn}
 use Rattle.module_eval.specs.declared.counts.Counts.{Counts}
 use Rattle.module_eval.specs.declared.memo.Memo.{Memo}
@@ -17,18 +18,6 @@ use Rattle.module_eval.proofs.Known.{known_object}
 
 pub count_on : (a b d : Counts) → CountOn a b → CountOn b d → CountOn a d
 count_on a b d h k = record { counted = k.counted; least = omega (arith, h.least, k.least) }
-
--- it went nowhere
-pub back_at_once : (ns : Space) (counted : Bool) (a : Walk) → MayGoOn ns a
-    → ComesBack ns counted a a
-back_at_once ns counted a h = record {
-  above = refl;
-  found = λ f. f;
-  kept = h.kept;
-  stays = λ q built. built;
-  deepens = record { deeper = omega arith; low = h.low };
-  known = λ e. h.known;
-}
 
 pub back_on : (ns : Space) (counted : Bool) (a b d : Walk) → ComesBack ns true a b
     → ComesBack ns counted b d → ComesBack ns counted a d
@@ -40,6 +29,7 @@ back_on ns counted a b d h k = record {
   deepens =
       record { deeper = omega (arith, h.deepens.deeper, k.deepens.deeper); low = k.deepens.low };
   known = k.known;
+  spent = k.spent;
 }
 
 pub ready_again : (ns : Space) (a b : Walk) → MayGoOn ns a → CountOn a.counts b.counts
@@ -50,6 +40,7 @@ ready_again ns a b h n k = record {
   low = k.deepens.low;
   kept = k.kept;
   known = k.known refl;
+  spent = k.spent;
 }
 
 -- up to there it only began nodes
@@ -66,6 +57,7 @@ back_from ns counted a b d above memo read k =
           (subst (λ (m : Memo). is_built m.kept.entries q ≡ true) (sym memo) h);
       deepens = record { deeper = omega (arith, deepest, k.deepens.deeper); low = k.deepens.low };
       known = k.known;
+      spent = k.spent;
     }
 
 -- a path was read, at which nothing is opened
@@ -76,8 +68,9 @@ pub back_object : {X E : Type 0} (ns : Space) (counted : Bool) (a : Walk) (new :
     → AreFound ms new.read.entries)
     → OnOk r (IsReadAlone a.counts.read.entries new.read.entries p)
     → OnOk r (StayRead a.counts.read.entries new.read.entries)
+    → OnOk r (AreSpent ns a.plan new.read.entries a.memo.kept.entries)
     → OnOk r (ComesBack ns counted a (record a { counts = new }))
-back_object ns counted a new p e f (Ok x) h there is found alone stay = record {
+back_object ns counted a new p e f (Ok x) h there is found alone stay spent = record {
   above = refl;
   found = found ns there;
   kept = h.kept;
@@ -86,8 +79,9 @@ back_object ns counted a new p e f (Ok x) h there is found alone stay = record {
   known = λ c.
       known_object ns a.above a.above a.counts.read.entries new.read.entries a.memo.apart
       a.memo.kept.entries p f is alone stay h.known;
+  spent = spent;
 }
-back_object ns counted a new p e f (Err x) h there is found alone stay = tt
+back_object ns counted a new p e f (Err x) h there is found alone stay spent = tt
 
 pub max_low : (a b : ℕ) → a ≤ 32 → b ≤ 32 → max a b ≤ 32
 max_low a b h k = omega (arith, h, k)

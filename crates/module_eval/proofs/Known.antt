@@ -221,6 +221,18 @@ known_first ns read apart all none empty = record {
   unkept = λ a q h. absurd (true≢false (sym h));
 }
 
+-- a blueprint that is neither open nor kept wasn't read
+pub not_read : (ns : Space) (above : List Name) (old : List (Name × Bor Stamped)) (apart : Bool)
+    (all : List (Name × Kept)) (p : Name) (x : Tree) → AreKnown ns above old apart all
+    → source ns p ≡ Some (Blueprint x)
+    → is_among above p ≡ false → is_built all p ≡ false → is_among (keys_of old) p ≡ false
+not_read ns above old apart all p x known there out unbuilt =
+    go (is_among (keys_of old) p) refl
+  where
+    go : (c : Bool) → is_among (keys_of old) p ≡ c → is_among (keys_of old) p ≡ false
+    go true e = absurd (true≢false (sym (known.each p x there e out) ∙ unbuilt))
+    go false e = e
+
 -- the first use of a blueprint is charged to the path that is read for the first time
 pub charged : (ns : Space) (above : List Name) (old new : List (Name × Bor Stamped)) (apart : Bool)
     (all : List (Name × Kept)) (p : Name) (x : Tree) → AreKnown ns above old apart all
@@ -229,8 +241,5 @@ pub charged : (ns : Space) (above : List Name) (old new : List (Name × Bor Stam
     → (is_among (keys_of old) p ≡ false → read_of ns old + operators x ≡ read_of ns new)
     → read_of ns old + operators x ≤ read_of ns new
 charged ns above old new apart all p x known there out unbuilt fresh =
-    go (is_among (keys_of old) p) refl
-  where
-    go : (c : Bool) → is_among (keys_of old) p ≡ c → read_of ns old + operators x ≤ read_of ns new
-    go true e = absurd (true≢false (sym (known.each p x there e out) ∙ unbuilt))
-    go false e = let once = fresh e in omega (arith, once)
+    let once = fresh (not_read ns above old apart all p x known there out unbuilt) in
+    omega (arith, once)

@@ -23,7 +23,7 @@ use Rattle.module_share.proofs.Named.{WasOpened, named_opened}
 use Rattle.module_eval.specs.Costs.{is_built}
 use Rattle.module_eval.specs.inside.Known.{AreKnown, is_closed, is_closed_in, is_done}
 use Rattle.module_eval.specs.inside.Reaches.{Fits, IsReach, added, with_added}
-use Rattle.module_eval.specs.inside.Reaches.{PassesNoLimit, tally_of_visit}
+use Rattle.module_eval.specs.inside.Reaches.{tally_of_visit}
 use Rattle.module_eval.specs.inside.Walked.{tree_in}
 use Rattle.module_eval.specs.declared.memo.Kept.{Kept}
 use Rattle.module_eval.specs.declared.reach.Reach.{Reach}

@@ -4,8 +4,10 @@ pub mod Operators
 pub mod LeafParts
 pub mod Meant
 pub mod Reaches
+pub mod Times
 pub mod Kept
 pub mod Walked
 pub mod Pendings
 pub mod Known
+pub mod Plans
 pub mod Walks

@@ -10,8 +10,11 @@ ghost use Rattle.module_eval.specs.Costs.{is_built, operators};
 ghost use Rattle.module_eval.specs.inside.Counted.{visit_of};
 ghost use Rattle.module_eval.specs.inside.Kept.{IsKept};
 ghost use Rattle.module_eval.specs.inside.Walked.{IsFree, IsLimit, Walked, tree_in};
-ghost use Rattle.module_eval.specs.inside.Walks.{Charges, ComesBack, CountOn, GoesTo, IsCharged};
-ghost use Rattle.module_eval.specs.inside.Walks.{MayGoOn, IsThere, space_of};
+ghost use Rattle.module_eval.specs.inside.Plans.{IsPlannedFor};
+ghost use Rattle.module_eval.specs.inside.Times.{moved, never, once, times};
+ghost use Rattle.module_eval.specs.inside.Walks.{CanUse, Charges, ComesBack, CountOn, GoesTo};
+ghost use Rattle.module_eval.specs.inside.Walks.{IsCharged, IsOwed, IsThere, MayGoOn, Uses};
+ghost use Rattle.module_eval.specs.inside.Walks.{space_of};
 
 use crate::exprs::visit_expr;
 use crate::memo::Kept;
@@ -38,11 +41,16 @@ pub fn visit_first<'a, L: Ledger>(
     requires there { IsThere (space_of place.now) blueprint.now }
     requires free { IsFree walk.old.above blueprint.now.path.now }
     requires fresh { is_built walk.old.memo.kept.entries blueprint.now.path.now ≡ false }
+    requires owed { IsOwed (space_of place.now) place.now.counting counted blueprint.now.path.now
+        walk.old }
+    requires planned { IsPlannedFor walk.old.plan blueprint.now.path.now }
     ensures walk { GoesTo place.now counted blueprint.now.path.now result walk.old walk.new }
     ensures counts { CountOn walk.old.counts walk.new.counts }
     ensures back { OnOk result (ComesBack (space_of place.now) counted walk.old walk.new) }
     ensures more { counted ≡ true
         → OnOk result (walk.old.counts.nodes + 1 ≤ walk.new.counts.nodes) }
+    ensures uses { counted ≡ true → OnOk result (Uses (space_of place.now) place.now.counting
+        (λ p. once p blueprint.now.path.now) never walk.old walk.new) }
     ensures cost { IsCharged (space_of place.now) 0 0 walk.old.counts walk.new.counts
         steps.old steps.new }
 {
@@ -73,9 +81,10 @@ pub fn visit_first<'a, L: Ledger>(
         return Ok(part);
     }
     let reach = Reach::of(height, before, &walk.counts);
+    let only = walk.plan.is_only_use(place, &walk.counts, path)?;
     Ok(
         walk.memo
-            .keep(walk.counts.alloc(), path, first, reach, part)?,
+            .keep(walk.counts.alloc(), path, first, reach, only, part)?,
     )
 }
 
@@ -96,11 +105,17 @@ pub fn visit_again<'a, L: Ledger>(
     requires free { IsFree walk.old.above blueprint.now.path.now }
     requires built { is_built walk.old.memo.kept.entries blueprint.now.path.now ≡ true }
     requires own { IsKept (space_of place.now) blueprint.now.path.now kept }
+    requires left { place.now.counting ≡ false → moved kept.built ≡ 0 }
+    requires owed { IsOwed (space_of place.now) place.now.counting counted blueprint.now.path.now
+        walk.old }
+    requires planned { IsPlannedFor walk.old.plan blueprint.now.path.now }
     ensures walk { GoesTo place.now counted blueprint.now.path.now result walk.old walk.new }
     ensures counts { CountOn walk.old.counts walk.new.counts }
     ensures back { OnOk result (ComesBack (space_of place.now) counted walk.old walk.new) }
     ensures more { counted ≡ true
         → OnOk result (walk.old.counts.nodes + 1 ≤ walk.new.counts.nodes) }
+    ensures uses { counted ≡ true → OnOk result (Uses (space_of place.now) place.now.counting
+        (λ p. once p blueprint.now.path.now) never walk.old walk.new) }
     ensures cost { IsCharged (space_of place.now) 0 0 walk.old.counts walk.new.counts
         steps.old steps.new }
 {
@@ -137,12 +152,16 @@ fn visit_nested<'a, L: Ledger>(
     steps: &mut Steps<L>,
 ) -> Result<Part, WalkFault>
     requires ready { MayGoOn (space_of place.now) walk.old }
+    requires uses { CanUse (space_of place.now) place.now.counting
+        (λ p. times p (tree_of image.now.body)) walk.old }
     ensures walk { (limit : ℕ) → IsLimit result walk.new.memo.deepest limit
         → Walked place.now.counting result (nested_on (tree_in (space_of place.now) limit
         walk.old.above place.now.at.now (tree_of image.now.body)) (visit_of walk.old.counts))
         walk.new.counts }
     ensures counts { CountOn walk.old.counts walk.new.counts }
     ensures back { OnOk result (ComesBack (space_of place.now) true walk.old walk.new) }
+    ensures uses { OnOk result (Uses (space_of place.now) place.now.counting
+        (λ p. times p (tree_of image.now.body)) never walk.old walk.new) }
     ensures cost { Charges (space_of place.now) place.now.counting
         (operators (tree_of image.now.body)) 0 walk.old.counts walk.new.counts
         steps.old steps.new }

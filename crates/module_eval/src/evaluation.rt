@@ -16,6 +16,7 @@ use crate::footprint::entries_of;
 use crate::node::WalkFault;
 use crate::part::{Part, built};
 use crate::paths::visit_path;
+use crate::plan::Plan;
 use crate::read_path::ReadPath;
 use crate::terms::{self, Terms};
 use crate::walk::{Place, Walk};
@@ -40,6 +41,7 @@ fn expand<'a, L: Ledger>(
     requires ready { MayGoOn snap.now.entries walk.old }
     requires first { visit_of walk.old.counts ≡ first_visit }
     requires closed { walk.old.above ≡ [] }
+    requires unplanned { walk.old.plan ≡ Plan.Unmade }
     ensures walk { Expands result (expansion snap.now.entries path.now) walk.new.counts }
     ensures found { OnOk result (AreFound snap.now.entries walk.new.counts.read.entries) }
     ensures cost { IsPaid result steps.old steps.new snap.now.entries path.now }

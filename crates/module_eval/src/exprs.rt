@@ -10,9 +10,10 @@ ghost use Rattle.module_eval.specs.Costs.{joins, operators, owed, owed_by};
 ghost use Rattle.module_eval.specs.inside.Counted.{visit_of};
 ghost use Rattle.module_eval.specs.inside.Meant.{Means};
 ghost use Rattle.module_eval.specs.inside.Pendings.{Comes, ComesTo, EndsAt, others_in};
+ghost use Rattle.module_eval.specs.inside.Times.{never, times, times_among, times_at, times_left};
 ghost use Rattle.module_eval.specs.inside.Walked.{IsLimit, Walked, path_in, tree_in};
-ghost use Rattle.module_eval.specs.inside.Walks.{Charges, ComesBack, CountOn, EndsFrom, MayGoOn};
-ghost use Rattle.module_eval.specs.inside.Walks.{space_of};
+ghost use Rattle.module_eval.specs.inside.Walks.{CanUse, Charges, ComesBack, CountOn, EndsFrom};
+ghost use Rattle.module_eval.specs.inside.Walks.{MayGoOn, Uses, space_of};
 
 use crate::counts::begin_node;
 use crate::node::WalkFault;
@@ -38,11 +39,15 @@ pub fn visit_expr<'a, L: Ledger>(
 ) -> Result<Part, WalkFault>
     requires ready { MayGoOn (space_of place.now) walk.old }
     requires formed { IsTrue (is_formed expr.now) }
+    requires uses { CanUse (space_of place.now) place.now.counting
+        (λ p. times p (tree_of expr.now)) walk.old }
     ensures walk { (limit : ℕ) → IsLimit result walk.new.memo.deepest limit
         → Walked place.now.counting result (tree_in (space_of place.now) limit walk.old.above
         place.now.at.now (tree_of expr.now) (visit_of walk.old.counts)) walk.new.counts }
     ensures counts { CountOn walk.old.counts walk.new.counts }
     ensures back { OnOk result (ComesBack (space_of place.now) true walk.old walk.new) }
+    ensures uses { OnOk result (Uses (space_of place.now) place.now.counting
+        (λ p. times p (tree_of expr.now)) never walk.old walk.new) }
     ensures cost { Charges (space_of place.now) place.now.counting (operators (tree_of expr.now)) 0
         walk.old.counts walk.new.counts steps.old steps.new }
 {
@@ -65,6 +70,8 @@ fn descend<'a, L: Ledger>(
 ) -> Result<Part, WalkFault>
     requires ready { MayGoOn (space_of place.now) walk.old }
     requires formed { IsTrue (is_formed expr.now) }
+    requires uses { CanUse (space_of place.now) place.now.counting
+        (λ p. times p (tree_of expr.now) + times_left pending.old p) walk.old }
     ensures walk { (limit : ℕ) (end : Trail Term) → IsLimit result walk.new.memo.deepest limit
         → Comes (tree_in (space_of place.now) limit walk.old.above place.now.at.now
         (tree_of expr.now) (visit_of walk.old.counts))
@@ -75,6 +82,9 @@ fn descend<'a, L: Ledger>(
     ensures back { OnOk result (ComesBack (space_of place.now) true walk.old walk.new) }
     ensures begun { OnOk result (length pending.new + walk.old.counts.nodes + 1
         ≤ length pending.old + walk.new.counts.nodes) }
+    ensures uses { OnOk result (Uses (space_of place.now) place.now.counting
+        (λ p. times p (tree_of expr.now) + times_left pending.old p) (times_left pending.new)
+        walk.old walk.new) }
     ensures cost { Charges (space_of place.now) place.now.counting
         (operators (tree_of expr.now) + owed pending.old) (owed pending.new)
         walk.old.counts walk.new.counts steps.old steps.new }
@@ -108,6 +118,8 @@ fn resume<'a, L: Ledger>(
     steps: &mut Steps<L>,
 ) -> Result<Part, WalkFault>
     requires ready { MayGoOn (space_of place.now) walk.old }
+    requires uses { CanUse (space_of place.now) place.now.counting
+        (λ p. times_at p node + times_left pending.old p) walk.old }
     ensures walk { (limit : ℕ) (t : Term) (end : Trail Term)
         → IsLimit result walk.new.memo.deepest limit → Means place.now.counting part t
         → EndsAt place.now.counting (space_of place.now) limit walk.old.above place.now.at.now
@@ -118,6 +130,9 @@ fn resume<'a, L: Ledger>(
     ensures back { OnOk result (ComesBack (space_of place.now) true walk.old walk.new) }
     ensures done { OnOk result (length pending.new + walk.old.counts.nodes
         ≤ length pending.old + walk.new.counts.nodes) }
+    ensures uses { OnOk result (Uses (space_of place.now) place.now.counting
+        (λ p. times_at p node.entry + times_left pending.old p) (times_left pending.new)
+        walk.old walk.new) }
     ensures cost { Charges (space_of place.now) place.now.counting
         (owed_by node.entry + owed pending.old) (owed pending.new)
         walk.old.counts walk.new.counts steps.old steps.new }
@@ -156,6 +171,8 @@ fn visit_others<'a, L: Ledger>(
     steps: &mut Steps<L>,
 ) -> Result<Part, WalkFault>
     requires ready { MayGoOn (space_of place.now) walk.old }
+    requires uses { CanUse (space_of place.now) place.now.counting
+        (λ p. times_among others p + times_left pending.old p) walk.old }
     ensures walk { (limit : ℕ) (t : Term) (end : Trail Term)
         → IsLimit result walk.new.memo.deepest limit → Means place.now.counting left t
         → Comes (others_in (path_in (space_of place.now) limit walk.old.above true place.now.at.now)
@@ -168,6 +185,9 @@ fn visit_others<'a, L: Ledger>(
     ensures back { OnOk result (ComesBack (space_of place.now) true walk.old walk.new) }
     ensures done { OnOk result (length pending.new + walk.old.counts.nodes
         ≤ length pending.old + walk.new.counts.nodes) }
+    ensures uses { OnOk result (Uses (space_of place.now) place.now.counting
+        (λ p. times_among others.entry p + times_left pending.old p) (times_left pending.new)
+        walk.old walk.new) }
     ensures cost { Charges (space_of place.now) place.now.counting
         (joins others.entry + owed pending.old) (owed pending.new)
         walk.old.counts walk.new.counts steps.old steps.new }

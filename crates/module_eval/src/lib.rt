@@ -20,6 +20,7 @@ mod outermost;
 mod part;
 mod paths;
 mod pending;
+mod plan;
 mod reach;
 mod read_path;
 mod refused;

@@ -1,6 +1,6 @@
 //! What became of the blueprints that were gone through.
 
-ghost use Rattle.std.specs.Prelude.{◌≡◌, [], false, true, IfOk, OnOk};
+ghost use Rattle.std.specs.Prelude.{◌≡◌, ◌+◌, ◌≤◌, [], Bool, false, true, IfOk, OnOk};
 ghost use Rattle.omos_model.specs.Names.{Name};
 ghost use Rattle.omos_model.specs.Namespace.{Space};
 ghost use Rattle.omos_model.specs.Term.{Term};
@@ -9,6 +9,7 @@ ghost use Rattle.module_eval.specs.inside.Counted.{AreCounted, visit_of};
 ghost use Rattle.module_eval.specs.inside.Kept.{AreKept, Finds, IsKept, IsRun};
 ghost use Rattle.module_eval.specs.inside.Meant.{Means};
 ghost use Rattle.module_eval.specs.inside.Reaches.{Fits, IsReach, with_added};
+ghost use Rattle.module_eval.specs.inside.Times.{moved, once, spent};
 
 use crate::counts::Counts;
 use crate::part::{Part, built};
@@ -29,8 +30,8 @@ use std::alloc::Global;
 pub struct Kept {
     first: u32,
     pub reach: Reach,
-    /// Its table, or the first refusal of its operators.
-    built: Result<SharedTable, Boxed<Refusal>>,
+    /// Its table, or the first refusal of its operators. None where it was moved to its only use.
+    built: Option<Result<SharedTable, Boxed<Refusal>>>,
 }
 
 /// What became of each blueprint that was gone through, but for the requested one.
@@ -60,31 +61,38 @@ impl Kept {
         let first = self.first;
         let reach = self.reach;
         match &self.built {
-            Ok(table) => {
-                let built = Ok(table.twin()?);
+            Some(Ok(table)) => {
+                let built = Some(Ok(table.twin()?));
                 Ok(Kept {
                     first,
                     reach,
                     built,
                 })
             }
-            Err(refusal) => {
-                let built = Err(Boxed::new(alloc, refused::again(refusal.get())?)?);
+            Some(Err(refusal)) => {
+                let built = Some(Err(Boxed::new(alloc, refused::again(refusal.get())?)?));
                 Ok(Kept {
                     first,
                     reach,
                     built,
                 })
             }
+            None => Ok(Kept {
+                first,
+                reach,
+                built: None,
+            }),
         }
     }
 
     /// The blueprint once more, where the number of its first leaf is this one.
     ///
-    /// A table is copied, which costs its names and references.
+    /// A table is copied, which costs its names and references. One that was moved is wanted only
+    /// where nodes are counted.
     pub fn again(self, alloc: Global, first: u32) -> Result<Part, NoMemory>
-        ensures { (ns : Space) (path : Name) (t : Term) → IsKept ns path self
-            → IsRun ns path first t → IfOk result (λ part. Means false part t) }
+        ensures { (ns : Space) (path : Name) (counting : Bool) (t : Term) → IsKept ns path self
+            → (counting ≡ false → moved self.built ≡ 0) → IsRun ns path first t
+            → IfOk result (λ part. Means counting part t) }
     {
         let Kept {
             first: before,
@@ -92,11 +100,12 @@ impl Kept {
             built,
         } = self;
         match built {
-            Ok(table) => {
+            Some(Ok(table)) => {
                 let again = table.instance(alloc, first.wrapping_sub(before))?;
                 Ok(Part::Built(TableBox::new(alloc, again)?))
             }
-            Err(refusal) => Ok(Part::Failed(refusal)),
+            Some(Err(refusal)) => Ok(Part::Failed(refusal)),
+            None => Ok(Part::Counted),
         }
     }
 }
@@ -106,8 +115,9 @@ impl Kept {
     pub fn use_again(self, counts: &mut Counts<'_>) -> Result<Part, NoMemory>
         requires counted { AreCounted counts.old }
         requires fits { Fits self.reach.added (visit_of counts.old) }
-        ensures part { (ns : Space) (path : Name) (t : Term) → IsKept ns path self
-            → IsRun ns path counts.old.leaves t → IfOk result (λ part. Means false part t) }
+        ensures part { (ns : Space) (path : Name) (counting : Bool) (t : Term)
+            → IsKept ns path self → (counting ≡ false → moved self.built ≡ 0)
+            → IsRun ns path counts.old.leaves t → IfOk result (λ part. Means counting part t) }
         ensures sum { visit_of counts.new ≡ with_added self.reach.added (visit_of counts.old) }
         ensures read { counts.new.read ≡ counts.old.read }
         ensures counted { AreCounted counts.new }
@@ -152,6 +162,10 @@ impl<'a> Memo<'a> {
         ensures stays { OnOk result (StayBuilt self.old.kept.entries self.new.kept.entries) }
         ensures others { OnOk result
             (IsBuiltAlone self.old.kept.entries self.new.kept.entries path.now) }
+        ensures spent { OnOk result ((q : Name) → spent self.new.kept.entries q
+            ≤ spent self.old.kept.entries q + once q path.now) }
+        ensures unspent { moved kept.built ≡ 0 → OnOk result ((q : Name)
+            → spent self.new.kept.entries q ≤ spent self.old.kept.entries q) }
         ensures apart { self.new.apart ≡ self.old.apart }
         ensures deepest { self.new.deepest ≡ self.old.deepest }
     {
@@ -161,13 +175,15 @@ impl<'a> Memo<'a> {
 
     /// Keeps what became of a path's blueprint, and gives it once more.
     ///
-    /// A table is copied, which costs its names and references.
+    /// Where this is its only use, it is moved there. Else a table is copied, which costs its names
+    /// and references.
     pub fn keep(
         &mut self,
         alloc: Global,
         path: &'a PathName,
         first: u32,
         reach: Reach,
+        only: bool,
         part: Part,
     ) -> Result<Part, NoMemory>
         ensures part { (ns : Space) (t : Term) → Means false part t → IsRun ns path.now first t
@@ -180,14 +196,30 @@ impl<'a> Memo<'a> {
         ensures stays { OnOk result (StayBuilt self.old.kept.entries self.new.kept.entries) }
         ensures others { OnOk result
             (IsBuiltAlone self.old.kept.entries self.new.kept.entries path.now) }
+        ensures spent { OnOk result ((q : Name) → spent self.new.kept.entries q
+            ≤ spent self.old.kept.entries q + once q path.now) }
+        ensures unspent { only ≡ false → OnOk result ((q : Name)
+            → spent self.new.kept.entries q ≤ spent self.old.kept.entries q) }
         ensures apart { self.new.apart ≡ self.old.apart }
         ensures deepest { self.new.deepest ≡ self.old.deepest }
     {
+        if only {
+            let built = None;
+            self.insert(
+                path,
+                Kept {
+                    first,
+                    reach,
+                    built,
+                },
+            )?;
+            return Ok(part);
+        }
         match built(alloc, part)? {
             Some(Ok(table)) => {
                 let table = SharedTable::of(alloc, table.into_inner())?;
                 let own = table.instance(alloc, 0)?;
-                let built = Ok(table);
+                let built = Some(Ok(table));
                 self.insert(
                     path,
                     Kept {
@@ -199,7 +231,7 @@ impl<'a> Memo<'a> {
                 Ok(Part::Built(TableBox::new(alloc, own)?))
             }
             Some(Err(refusal)) => {
-                let built = Err(Boxed::new(alloc, refused::again(refusal.get())?)?);
+                let built = Some(Err(Boxed::new(alloc, refused::again(refusal.get())?)?));
                 self.insert(
                     path,
                     Kept {

@@ -1,6 +1,6 @@
 //! The leaf of an object's path.
 
-ghost use Rattle.std.specs.Prelude.{◌≡◌, ◌+◌, ◌≤◌, true, OnOk, Some};
+ghost use Rattle.std.specs.Prelude.{◌≡◌, ◌+◌, ◌≤◌, true, List, OnOk, Some};
 ghost use Rattle.omos_model.specs.Expansion.{add_read};
 ghost use Rattle.module_share.specs.Trails.{and_on, begin_path_on, leaf_on};
 ghost use Rattle.omos_model.specs.FragmentParts.{FragmentParts};
@@ -9,6 +9,11 @@ ghost use Rattle.module_eval.specs.inside.Counted.{AreCounted, visit_of};
 ghost use Rattle.omos_model.specs.Namespace.{Space, look_up};
 ghost use Rattle.module_eval.specs.Costs.{IsReadAlone, StayRead, read_of};
 ghost use Rattle.module_eval.specs.inside.Found.{AreFound};
+ghost use Rattle.module_eval.specs.inside.Plans.{AreSpent, IsPlannedFor};
+ghost use Rattle.module_eval.specs.inside.Times.{times_read};
+ghost use Rattle.module_eval.specs.declared.memo.Kept.{Kept};
+ghost use Rattle.module_eval.specs.declared.plan.Plan.{Plan};
+ghost use Rattle.omos_model.specs.Names.{Name};
 ghost use Rattle.module_eval.specs.inside.Walked.{Walked};
 
 use crate::counts::{Counts, count_leaf, enter};
@@ -40,6 +45,11 @@ pub fn visit_object<'a>(
         → AreFound ns counts.old.read.entries → AreFound ns counts.new.read.entries) }
     ensures grown { (ns : Space) → read_of ns counts.old.read.entries
         ≤ read_of ns counts.new.read.entries }
+    ensures times { (ns : Space) (p : Name) → times_read ns counts.old.read.entries p
+        ≤ times_read ns counts.new.read.entries p }
+    ensures spent { OnOk result ((ns : Space) (plan : Plan) (all : List (Name × Kept))
+        → IsPlannedFor plan path.now → AreSpent ns plan counts.old.read.entries all
+        → AreSpent ns plan counts.new.read.entries all) }
     ensures alone { OnOk result
         (IsReadAlone counts.old.read.entries counts.new.read.entries path.now) }
     ensures stay { OnOk result (StayRead counts.old.read.entries counts.new.read.entries) }

@@ -11,6 +11,7 @@ ghost use Rattle.module_eval.specs.inside.Walks.{MayGoOn};
 
 use crate::counts::Counts;
 use crate::memo::Memo;
+use crate::plan::Plan;
 use name_tree::Snap;
 use omos_base::PathName;
 use omos_model::{Image, Stamped};
@@ -46,6 +47,8 @@ pub struct Walk<'a> {
     /// What became of those that were gone through.
     pub memo: Memo<'a>,
     pub counts: Counts<'a>,
+    /// What is known of the uses to come.
+    pub plan: Plan<'a>,
 }
 
 impl<'a> Walk<'a> {
@@ -54,11 +57,13 @@ impl<'a> Walk<'a> {
         ensures ready { (ns : Space) → MayGoOn ns result }
         ensures first { visit_of result.counts ≡ first_visit }
         ensures closed { result.above ≡ [] }
+        ensures unplanned { result.plan ≡ Plan.Unmade }
     {
         Walk {
             above: Items::new(alloc),
             memo: Memo::new(alloc, seed),
             counts: Counts::new(alloc, seed),
+            plan: Plan::Unmade,
         }
     }
 }

@@ -2,6 +2,7 @@ use Rattle.std.proofs.Common.{◌≡◌, ◌∙◌, ◌+◌, ◌-◌, ◌<◌, �
 use Rattle.std.proofs.Common.{reverse, true, false, Ok, Err, sym, ap, refl, subst, arith}
 use Rattle.std.proofs.lemmas.Result.{err_from_is_err_and}
 use Rattle.omos_model.specs.Expansion.{here, site_of, source}
+use Rattle.omos_model.specs.Names.{Name}
 use Rattle.omos_model.specs.Term.{Apply}
 use Rattle.omos_model.specs.Tree.{tree_of}
 use Rattle.omos_model.specs.declared.refusal.Refusal.TheVariants.{NoEntry}
@@ -15,8 +16,14 @@ use Rattle.module_eval.specs.declared.reach.Tally.{Tally}
 use Rattle.omos_model.specs.Visit.{Visit}
 use Rattle.module_eval.specs.inside.Pendings.{Comes, EndsAt, EndsIn, others_in}
 use Rattle.module_eval.specs.inside.Walked.{Walked, path_in, term_with, tree_in}
+use Rattle.module_eval.specs.inside.Walks.{CanUse, MayGoOn}
+use Rattle.module_eval.specs.declared.walk.Walk.{Walk}
 use Rattle.module_eval.proofs.Again.{run_of}
-use Rattle.module_eval.proofs.Charged.{on_ok, owed_more}
+use Rattle.module_eval.proofs.Charged.{ok_all, on_ok, owed_more}
+use Rattle.module_eval.proofs.Spent.{first_spent, first_uses, owes}
+use Rattle.module_eval.proofs.Spent.{used_again, used_counting, uses_from}
+use Rattle.module_eval.proofs.Times.{left_more}
+use Rattle.module_eval.specs.inside.Times.{times, times_at, times_left}
 use Rattle.module_eval.proofs.Further.{back_from, back_object, back_on, count_on, max_low}
 use Rattle.module_eval.proofs.Further.{ready_again}
 use Rattle.module_eval.proofs.Joined.{means_any}
@@ -66,9 +73,23 @@ paths::visit_path-returns-in-Object-clause-back g t c =
     let is = sym c.get-2.ensures ∙ c.in-Object.is in
     let found = source_at ns c.args.path.now c.in-Some.found.now _ c.in-Some.ensures is in
     let object = c.visit_object.ensures in
+    let spent = c.requires.ready.spent in
+    let planned = c.has_uses.ensures.planned in
     back_object ns c.args.counted c.args.walk.now c.visit_object.new.counts c.args.path.now
     c.in-Some.found.now _ c.visit_object.result c.requires.ready (sym c.in-Some.ensures) found
     object.found object.alone object.stay
+    (on_ok c.visit_object.result _ _
+    (λ read. read ns c.args.walk.now.plan c.args.walk.now.memo.kept.entries planned spent)
+    object.spent)
+
+pub paths::visit_path-returns-in-Object-clause-uses :
+    goal.paths::visit_path-returns-in-Object-clause-uses
+paths::visit_path-returns-in-Object-clause-uses g t c counted =
+    let ns = c.args.place.now.snap.now.entries in
+    ok_all c.visit_object.result _
+    (used_again ns c.args.place.now.counting c.args.path.now c.args.walk.now.counts.read.entries
+    c.visit_object.new.counts.read.entries c.args.walk.now.memo.kept.entries
+    (c.visit_object.ensures.times ns))
 
 pub paths::visit_path-returns-in-Object-clause-cost :
     goal.paths::visit_path-returns-in-Object-clause-cost
@@ -225,7 +246,49 @@ blueprints::visit_first-returns-clause-back g t c =
       known = λ counted. rw keep.apart
           (subst (λ ps. AreKnown ns ps reads c.visit_nested.new.walk.memo.apart
           c.keep.new.self.kept.entries) (sym popped) closed);
+      spent = first_spent ns c.args.place.now.counting p x
+          c.args.walk.now.counts.read.entries c.open.new.counts.read.entries reads
+          c.args.walk.now.memo.kept.entries c.visit_nested.new.walk.memo.kept.entries
+          c.keep.new.self.kept.entries
+          (record {
+            named = c.requires.ready.spent.named;
+            fresh = c.in_ok-open.ensures.fresh ns x c.args.walk.now.memo.apart
+                c.args.walk.now.memo.kept.entries c.requires.ready.known
+                c.requires.there.opens c.requires.free.0 c.requires.fresh;
+            inside = c.in_ok-part.ensures.uses;
+            more = keep.spent;
+            idle = λ e. keep.unspent (c.in_ok-only.ensures.idle e);
+            owed = owes ns c.args.place.now.counting p c.args.walk.now.counts.read.entries
+                c.args.walk.now.memo.kept.entries
+                (c.requires.owed.due c.if-not-counted.false);
+          })
+          c.is_only_use.new.self c.in_ok-only.only keep.unspent c.in_ok-only.ensures.few
+          (c.in_ok-only.ensures.planned c.visit_nested.new.walk.memo.kept.entries
+          c.in_ok-part.ensures.back.spent.planned);
     }
+
+pub blueprints::visit_first-returns-clause-uses : goal.blueprints::visit_first-returns-clause-uses
+blueprints::visit_first-returns-clause-uses g t c counted =
+    let ns = c.args.place.now.snap.now.entries in
+    let p = c.args.blueprint.now.path.now in
+    let x = tree_of c.args.blueprint.now.image.now.body in
+    let keep = c.in_ok-keep.ensures in
+    let reads = c.args.walk.now.counts.read.entries in
+    first_uses ns c.args.place.now.counting p x reads c.open.new.counts.read.entries
+    c.visit_nested.new.walk.counts.read.entries
+    c.args.walk.now.memo.kept.entries c.visit_nested.new.walk.memo.kept.entries
+    c.keep.new.self.kept.entries
+    (record {
+      named = c.requires.ready.spent.named;
+      fresh = c.in_ok-open.ensures.fresh ns x c.args.walk.now.memo.apart
+          c.args.walk.now.memo.kept.entries c.requires.ready.known
+          c.requires.there.opens c.requires.free.0 c.requires.fresh;
+      inside = c.in_ok-part.ensures.uses;
+      more = keep.spent;
+      idle = λ e. keep.unspent (c.in_ok-only.ensures.idle e);
+      owed = owes ns c.args.place.now.counting p reads c.args.walk.now.memo.kept.entries
+          (c.requires.owed.due counted);
+    })
 
 -- ---- a further use
 
@@ -278,7 +341,7 @@ blueprints::visit_again-returns-then-has_room-clause-walk g t c limit lim =
     c.use_again.new.counts c.in_ok-enter_again.ensures.walk (
       r.0,
       is,
-      means_any c.args.place.now.counting _ r.0 (c.in_ok-use_again.ensures.part ns p r.0 own run),
+      c.in_ok-use_again.ensures.part ns p c.args.place.now.counting r.0 own c.requires.left run,
     )
 
 pub blueprints::visit_again-returns-in_err-visit_nested-clause-walk :
@@ -351,6 +414,7 @@ blueprints::visit_again-returns-then-place-clause-back g t c =
           (sym popped)
           (known_popped ns above c.visit_nested.new.walk.above reads p more memo.apart
           memo.kept.entries (nested.stays p c.requires.built) (nested.known refl));
+      spent = nested.spent;
     }
 
 pub blueprints::visit_again-returns-clause-walk : goal.blueprints::visit_again-returns-clause-walk
@@ -375,8 +439,8 @@ blueprints::visit_again-returns-clause-walk g t c limit lim =
     c.visit_nested.new.walk.counts c.in_ok-enter_again.ensures.walk (
       walk.0,
       walk.1,
-      means_any c.args.place.now.counting _ walk.0
-          (c.in_ok-again.ensures ns p walk.0 c.requires.own run),
+      c.in_ok-again.ensures ns p c.args.place.now.counting walk.0 c.requires.own c.requires.left
+          run,
     )
 
 pub blueprints::visit_again-returns-clause-back : goal.blueprints::visit_again-returns-clause-back
@@ -406,7 +470,75 @@ blueprints::visit_again-returns-clause-back g t c =
           (sym popped)
           (known_popped ns above c.visit_nested.new.walk.above reads p more memo.apart
           memo.kept.entries (nested.stays p c.requires.built) (nested.known refl));
+      spent = nested.spent;
     }
+
+pub blueprints::visit_again-returns-then-has_room-clause-uses :
+    goal.blueprints::visit_again-returns-then-has_room-clause-uses
+blueprints::visit_again-returns-then-has_room-clause-uses g t c counted =
+    rw c.in_ok-use_again.ensures.read
+    (used_again c.args.place.now.snap.now.entries c.args.place.now.counting
+    c.args.blueprint.now.path.now c.args.walk.now.counts.read.entries
+    c.enter_again.new.counts.read.entries c.args.walk.now.memo.kept.entries
+    (c.in_ok-enter_again.ensures.times c.args.place.now.snap.now.entries))
+
+pub blueprints::visit_again-returns-then-place-clause-uses :
+    goal.blueprints::visit_again-returns-then-place-clause-uses
+blueprints::visit_again-returns-then-place-clause-uses g t c counted =
+    used_counting c.args.place.now.snap.now.entries c.args.place.now.counting
+    c.args.blueprint.now.path.now (tree_of c.args.blueprint.now.image.now.body)
+    c.args.walk.now.counts.read.entries c.enter_again.new.counts.read.entries
+    c.visit_nested.new.walk.counts.read.entries c.args.walk.now.memo.kept.entries
+    c.visit_nested.new.walk.memo.kept.entries
+    (c.in_ok-enter_again.ensures.times c.args.place.now.snap.now.entries)
+    c.in_ok-visit_nested.ensures.uses
+
+pub blueprints::visit_again-returns-clause-uses : goal.blueprints::visit_again-returns-clause-uses
+blueprints::visit_again-returns-clause-uses g t c counted =
+    used_counting c.args.place.now.snap.now.entries c.args.place.now.counting
+    c.args.blueprint.now.path.now (tree_of c.args.blueprint.now.image.now.body)
+    c.args.walk.now.counts.read.entries c.enter_again.new.counts.read.entries
+    c.visit_nested.new.walk.counts.read.entries c.args.walk.now.memo.kept.entries
+    c.visit_nested.new.walk.memo.kept.entries
+    (c.in_ok-enter_again.ensures.times c.args.place.now.snap.now.entries)
+    c.in_ok-visit_nested.ensures.uses
+
+pub blueprints::visit_again-visit_nested-requires :
+    goal.blueprints::visit_again-visit_nested-requires
+blueprints::visit_again-visit_nested-requires g t c κs within =
+    let ns = c.args.place.now.snap.now.entries in
+    let above = c.args.walk.now.above in
+    let p = c.args.blueprint.now.path.now in
+    let x = tree_of c.args.blueprint.now.image.now.body in
+    let all = c.args.walk.now.memo.kept.entries in
+    let entered = c.in_ok-enter_again.ensures in
+    let opened = c.in_ok-open_again.ensures in
+    let long = ap length opened.last in
+    let more = length-append above (p ∷ []) in
+    let free = c.requires.free.1 in
+    let deep = c.len-depth.ensures in
+    let walk : Walk = record {
+      above = c.open_again.new.above;
+      memo =
+          record c.args.walk.now.memo { apart = false; deepest = c.deeper-walk-2.result };
+      counts = c.enter_again.new.counts;
+      plan = c.args.walk.now.plan;
+    } in
+    let ready : MayGoOn ns walk = record {
+      counted = entered.counted;
+      room = omega (arith, long, more, free);
+      low = rw c.deeper-walk-2.ensures.one_of
+          (max_low _ _ c.requires.ready.low (omega (arith, deep, free)));
+      kept = c.requires.ready.kept;
+      known = opened.known ns c.enter_again.new.counts.read.entries c.args.walk.now.memo.apart all
+          c.requires.built
+          (entered.known ns above c.args.walk.now.memo.apart all c.requires.built
+          c.requires.ready.known);
+      spent = entered.spent ns c.args.walk.now.plan all c.requires.planned c.requires.ready.spent;
+    } in
+    let uses : CanUse ns true (λ q. times q x) walk =
+    entered.uses ns x all c.requires.there.opens in
+    (omega (arith, long, more, free), (search, (ready, uses)))
 
 -- ---- the expression of an open blueprint
 
@@ -464,10 +596,41 @@ exprs::visit_expr-pending-preserved g t c =
       counts = count_on c.args.walk.now.counts c.pending.walk.counts c.resume.new.walk.counts
           inv.counts step.counts;
       back = back_on ns true c.args.walk.now c.pending.walk c.resume.new.walk inv.back step.back;
+      uses =
+          let left : (q : Name) → times_left c.pending.pending q
+          ≡ times_left c.pop.new.self q + times_at q c.in-Some.node =
+          λ q. left_more c.pending.pending c.pop.new.self c.in-Some.node q c.in-Some.ensures in
+          record {
+            each = λ q.
+                let one = inv.uses.each q in
+                let two = step.uses.each q in
+                let more = left q in
+                omega (arith, one, two, more);
+            idle = λ e q.
+                let one = inv.uses.idle e q in
+                let two = step.uses.idle e q in
+                omega (arith, one, two);
+            grown = λ q.
+                let one = inv.uses.grown q in
+                let two = step.uses.grown q in
+                omega (arith, one, two);
+          };
       cost = record {
         applied = λ e. omega (arith, inv.cost.applied e, step.cost.applied e, more);
         idle = λ e. omega (arith, inv.cost.idle e, step.cost.idle e);
       };
+    }
+
+pub exprs::visit_expr-returns-clause-uses : goal.exprs::visit_expr-returns-clause-uses
+exprs::visit_expr-returns-clause-uses g t c =
+    let inv = c.pending.invariant in
+    record {
+      each = λ q.
+          let one = inv.uses.each q in
+          let none = ap (λ ps. times_left ps q) c.in_default.ensures.0 in
+          omega (arith, one, none);
+      idle = inv.uses.idle;
+      grown = inv.uses.grown;
     }
 
 -- ---- down to the first path
@@ -544,7 +707,15 @@ exprs::descend-nodes-preserved-in-Under g t c =
         low = inv.ready.low;
         kept = inv.ready.kept;
         known = rw c.in_ok-node-in-Under.ensures.read inv.ready.known;
+        spent = rw c.in_ok-node-in-Under.ensures.read inv.ready.spent;
       };
+      plan = inv.plan;
+      uses = λ p.
+          let apart = ap (times p) c.in-Under.ensures.0 in
+          let more =
+          left_more c.push.new.self c.nodes.pending node p c.in_ok-push-in-Under.ensures.ok in
+          let before = inv.uses p in
+          omega (arith, apart, more, before);
       memo = inv.memo;
       steps = inv.steps;
       cost =
@@ -613,7 +784,16 @@ exprs::descend-nodes-preserved g t c =
         low = inv.ready.low;
         kept = inv.ready.kept;
         known = rw c.in_ok-node-in-Join.ensures.read inv.ready.known;
+        spent = rw c.in_ok-node-in-Join.ensures.read inv.ready.spent;
       };
+      plan = inv.plan;
+      uses = λ p.
+          let apart = c.in-Join.ensures.3 p in
+          let more =
+          left_more c.push-in-Join.new.self c.nodes.pending node p
+          c.in_ok-push-in-Join.ensures.ok in
+          let before = inv.uses p in
+          omega (arith, apart, more, before);
       memo = inv.memo;
       steps = inv.steps;
       cost =
@@ -626,6 +806,21 @@ exprs::descend-nodes-preserved g t c =
       begun = rw (c.in_ok-push-in-Join.ensures.ok, length-append c.nodes.pending (node ∷ []))
           (omega (arith, inv.begun, c.in_ok-node-in-Join.ensures.more));
     }
+
+pub exprs::descend-returns-in-Path-clause-uses : goal.exprs::descend-returns-in-Path-clause-uses
+exprs::descend-returns-in-Path-clause-uses g t c =
+    let inv = c.nodes.invariant in
+    on_ok c.visit_path.result _ _
+    (uses_from c.args.place.now.snap.now.entries c.args.place.now.counting _ _ _ _
+    c.args.walk.now.counts.read.entries c.nodes.walk.counts.read.entries
+    c.visit_path.new.walk.counts.read.entries c.args.walk.now.memo.kept.entries
+    c.nodes.walk.memo.kept.entries c.visit_path.new.walk.memo.kept.entries inv.read
+    (ap (λ m. m.kept.entries) inv.memo)
+    (λ q.
+    let here = ap (times q) c.in-Path.ensures in
+    let same = inv.uses q in
+    omega (arith, here, same)))
+    (c.visit_path.ensures.uses refl)
 
 -- ---- pending nodes
 
@@ -711,6 +906,14 @@ exprs::visit_expr-pending-init g t c =
           down.back;
       counts = down.counts;
       back = down.back;
+      uses = record {
+        each = λ q.
+            let one = down.uses.each q in
+            let none = ap (λ ps. times_left ps q) c.new-pending.ensures in
+            omega (arith, one, none);
+        idle = down.uses.idle;
+        grown = down.uses.grown;
+      };
       cost =
           let none = ap owed c.new-pending.ensures in
           record { applied = λ e. omega (arith, none, down.cost.applied e); idle = down.cost.idle };

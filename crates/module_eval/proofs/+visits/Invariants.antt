@@ -1,6 +1,7 @@
 use Rattle.std.proofs.Common.{◌≡◌, ℕ, ◌+◌, ◌-◌, ◌*◌, ◌≤◌, true, length}
 use Rattle.std.specs.Prelude.{IsTrue}
 use Rattle.omos_model.specs.ImageParts.{is_formed}
+use Rattle.omos_model.specs.Names.{Name}
 use Rattle.omos_model.specs.Term.{Term}
 use Rattle.omos_model.specs.Tree.{tree_of}
 use Rattle.module_share.specs.Trails.{Trail}
@@ -9,7 +10,8 @@ use Rattle.module_eval.specs.inside.Counted.{visit_of}
 use Rattle.module_eval.specs.inside.Meant.{Means}
 use Rattle.module_eval.specs.inside.Pendings.{Comes, EndsIn}
 use Rattle.module_eval.specs.inside.Walked.{tree_in}
-use Rattle.module_eval.specs.inside.Walks.{Charges, ComesBack, CountOn, MayGoOn, space_of}
+use Rattle.module_eval.specs.inside.Times.{times, times_left}
+use Rattle.module_eval.specs.inside.Walks.{Charges, ComesBack, CountOn, MayGoOn, Uses, space_of}
 use Rattle.module_eval.proofs.+visits.Given as goal
 
 -- a step down opens a blueprint, of which there are at most 32
@@ -56,6 +58,9 @@ invariant-exprs::visit_expr-pending g l =
       ready : MayGoOn (space_of l.place) l.walk;
       counts : CountOn l.fn.walk.counts l.walk.counts;
       back : ComesBack (space_of l.place) true l.fn.walk l.walk;
+      uses : Uses (space_of l.place) l.place.counting (λ p. times p (tree_of l.expr))
+          (times_left l.pending)
+          l.fn.walk l.walk;
       cost : Charges (space_of l.place) l.place.counting (operators (tree_of l.expr))
           (owed l.pending)
           l.fn.walk.counts l.walk.counts l.fn.steps l.steps;
@@ -81,7 +86,10 @@ invariant-exprs::descend-nodes g l =
       above : l.walk.above ≡ l.fn.walk.above;
       memo : l.walk.memo ≡ l.fn.walk.memo;
       read : l.walk.counts.read.entries ≡ l.fn.walk.counts.read.entries;
+      plan : l.walk.plan ≡ l.fn.walk.plan;
       steps : l.steps ≡ l.fn.steps;
+      uses : (p : Name) → times p (tree_of l.expr) + times_left l.pending p
+          ≡ times p (tree_of l.fn.expr) + times_left l.fn.pending p;
       cost : operators (tree_of l.expr) + owed l.pending
           ≡ operators (tree_of l.fn.expr) + owed l.fn.pending;
       least : l.fn.walk.counts.nodes ≤ l.walk.counts.nodes;

@@ -1,5 +1,6 @@
 -- Tables of blueprints that are kept for further uses.
-use Rattle.std.specs.Prelude.{◌≡◌, ℕ, true, false, List, None, Some, Result, Ok, Err}
+use Rattle.std.specs.Prelude.{◌≡◌, ℕ, true, false, List, Option, None, Some, Result, Ok}
+use Rattle.std.specs.Prelude.{Err}
 use Rattle.std.specs.List.{AllByRecursion}
 use Rattle.omos_model.specs.Expansion.{Blueprint, source}
 use Rattle.omos_model.specs.FirstRefusal.{first_refusal}
@@ -14,6 +15,7 @@ use Rattle.module_table.specs.Stands.{StandsFor}
 use Rattle.module_table.specs.TableParts.{TableParts}
 use Rattle.module_eval.specs.Costs.{is_built}
 use Rattle.module_eval.specs.inside.Reaches.{IsReach}
+use Rattle.module_eval.specs.inside.Times.{moved, spent}
 use Rattle.module_eval.specs.declared.memo.Found.{Found}
 use Rattle.module_eval.specs.declared.memo.Found.TheVariants as found
 use Rattle.module_eval.specs.declared.memo.Kept.{Kept}
@@ -30,10 +32,12 @@ pub record IsRun (ns : Space) (path : Name) (first : ℕ) (t : Term) : Type 0 wh
   pub leaves : start.leaves ≡ first
   pub expanded : tree_at (source ns) room above path tree start ≡ Ok (t, after)
 
--- a table of the term, in which nothing is refused, or its first refusal
-abbrev pub StandsOr : Result TableParts Refusal → Term → Type 0
-StandsOr (Ok table) t = StandsFor table t × (first_refusal t ≡ None)
-StandsOr (Err x) t = first_refusal t ≡ Some x
+-- a table of the term, in which nothing is refused, or its first refusal; nothing where it was
+-- moved to its only use
+abbrev pub StandsOr : Option (Result TableParts Refusal) → Term → Type 0
+StandsOr (Some (Ok table)) t = StandsFor table t × (first_refusal t ≡ None)
+StandsOr (Some (Err x)) t = first_refusal t ≡ Some x
+StandsOr None t = Unit {0}
 
 -- what is kept is of such a term, and its reach is the blueprint's
 pub record IsKept (ns : Space) (path : Name) (kept : Kept) : Type 0 where
@@ -49,5 +53,6 @@ pub record AreKept (ns : Space) (all : List (Name × Kept)) : Type 0 where
 abbrev pub Finds : Found → List (Name × Kept) → Name → Type 0
 Finds (found.Kept kept) all path =
     (is_built all path ≡ true) × ((ns : Space) → AreKept ns all → IsKept ns path kept)
+    × (spent all path ≡ 0 → moved kept.built ≡ 0)
 Finds found.Nothing all path = is_built all path ≡ false
 Finds found.NoMemory all path = Unit {0}

@@ -15,10 +15,13 @@ use Rattle.module_eval.specs.inside.Found.{AreFound}
 use Rattle.module_eval.specs.inside.Kept.{AreKept}
 use Rattle.module_eval.specs.inside.Known.{AreKnown, Deepens}
 use Rattle.module_eval.specs.inside.Pendings.{EndsIn}
+use Rattle.module_eval.specs.inside.Plans.{AreSpent}
+use Rattle.module_eval.specs.inside.Times.{Affords, Spares, once}
 use Rattle.module_eval.specs.inside.Walked.{IsLimit, Walked, path_in}
 use Rattle.module_eval.specs.declared.counts.Counts.{Counts}
 use Rattle.module_eval.specs.declared.part.Part.{Part}
 use Rattle.module_eval.specs.declared.pending.Pending.{Pending}
+use Rattle.module_eval.specs.declared.plan.Plan.TheVariants.{Unmade}
 use Rattle.module_eval.specs.declared.walk.BlueprintAt.{BlueprintAt}
 use Rattle.module_eval.specs.declared.walk.Place.{Place}
 use Rattle.module_eval.specs.declared.walk.Walk.{Walk}
@@ -32,6 +35,26 @@ abbrev pub AreOpenOrKept : Space → Walk → Type 0
 AreOpenOrKept ns walk =
     AreKnown ns walk.above walk.counts.read.entries walk.memo.apart walk.memo.kept.entries
 
+-- no table is gone that is wanted again
+abbrev pub HasSpent : Space → Walk → Type 0
+HasSpent ns walk = AreSpent ns walk.plan walk.counts.read.entries walk.memo.kept.entries
+
+-- there is a table for each use that is still owed
+abbrev pub CanUse : Space → Bool → (Name → ℕ) → Walk → Type 0
+CanUse ns counting owed walk =
+    Affords ns counting owed walk.counts.read.entries walk.memo.kept.entries
+
+-- those that were owed and aren't any more were made
+abbrev pub Uses : Space → Bool → (Name → ℕ) → (Name → ℕ) → Walk → Walk → Type 0
+Uses ns counting owed left before after =
+    Spares ns counting owed left before.counts.read.entries after.counts.read.entries
+    before.memo.kept.entries after.memo.kept.entries
+
+-- a use of the path is owed, but for the requested one, before which nothing was counted
+pub record IsOwed (ns : Space) (counting counted : Bool) (path : Name) (walk : Walk) : Type 0 where
+  pub due : counted ≡ true → CanUse ns counting (λ p. once p path) walk
+  pub first : counted ≡ false → walk.plan ≡ Unmade
+
 -- a walk may go on: nothing passes its limit, and what is kept is right
 pub record MayGoOn (ns : Space) (walk : Walk) : Type 0 where
   pub counted : AreCounted walk.counts
@@ -39,6 +62,7 @@ pub record MayGoOn (ns : Space) (walk : Walk) : Type 0 where
   pub low : walk.memo.deepest ≤ max_blueprints
   pub kept : AreKept ns walk.memo.kept.entries
   pub known : AreOpenOrKept ns walk
+  pub spent : HasSpent ns walk
 
 -- the blueprint is what stands at its path
 pub record IsThere (ns : Space) (blueprint : BlueprintAt) : Type 0 where
@@ -74,6 +98,7 @@ pub record ComesBack (ns : Space) (counted : Bool) (before after : Walk) : Type 
   pub stays : StayBuilt before.memo.kept.entries after.memo.kept.entries
   pub deepens : Deepens before.memo.deepest after.memo.deepest
   pub known : counted ≡ true → AreOpenOrKept ns after
+  pub spent : HasSpent ns after
 
 -- the steps since are no more than the operators that were owed, less those that still are, and the
 -- operators of the blueprints that were read since

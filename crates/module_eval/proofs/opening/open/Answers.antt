@@ -1,4 +1,6 @@
-use Rattle.module_eval.proofs.Known.{charged, known_opened}
+use Rattle.std.proofs.Common.{ap, arith}
+use Rattle.module_eval.specs.inside.Times.{times_in}
+use Rattle.module_eval.proofs.Known.{charged, known_opened, not_read}
 use Rattle.module_eval.proofs.opening.open.Goals as goal
 
 pub returns-clause-known : goal.returns-clause-known
@@ -13,3 +15,12 @@ returns-clause-cost c ns x apart all known there out fresh =
     charged ns c.args.above.now c.args.counts.now.read.entries c.enter.new.counts.read.entries apart
     all c.args.path.now x known there out fresh
     (c.in_ok-node.ensures.fresh ns x there)
+
+pub returns-clause-fresh : goal.returns-clause-fresh
+returns-clause-fresh c ns x apart all known there out unbuilt q =
+    let unread =
+    not_read ns c.args.above.now c.args.counts.now.read.entries apart all c.args.path.now x known
+    there out unbuilt in
+    let more = c.in_ok-node.ensures.first ns q unread in
+    let own = ap (times_in q) there in
+    omega (arith, more, own)

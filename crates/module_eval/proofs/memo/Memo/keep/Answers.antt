@@ -39,3 +39,9 @@ returns-in_ok-insert-in-Some-Err-clause-kept c ns t h run reach all =
       ) (built false t h);
     })
     all
+
+pub returns-then-only-clause-kept : goal.returns-then-only-clause-kept
+returns-then-only-clause-kept c ns t h run reach all =
+    c.in_ok-insert.ensures.kept ns
+    (record { term = t; reach = reach; run = run; stands = tt })
+    all
