@@ -1,6 +1,7 @@
 -- A blueprint whose table is kept, and used again.
-use Rattle.std.proofs.Common.{◌≡◌, ◌∙◌, ℕ, ◌+◌, ◌-◌, ◌<◌, ◌≤◌, ◌%◌, Bool, true, false, cond, List, []}
-use Rattle.std.proofs.Common.{◌∷◌, Option, Some, None, Result, Ok, Err, refl, sym, ap, subst, length, arith}
+use Rattle.std.proofs.Common.{◌≡◌, ◌∙◌, ℕ, ◌+◌, ◌-◌, ◌<◌, ◌≤◌, ◌%◌, Bool, true, false, cond}
+use Rattle.std.proofs.Common.{List, [], ◌∷◌, Option, Some, None, Result, Ok, Err, refl, sym, ap}
+use Rattle.std.proofs.Common.{subst, length, arith}
 use Rattle.std.specs.Prelude.{IfSome}
 use Rattle.std.specs.Map.{lookup}
 use Rattle.indexmap.specs.IndexMap.{insert_entry}
@@ -24,7 +25,7 @@ use Rattle.module_table.specs.Stands.{StandsFor}
 use Rattle.module_table.specs.TableParts.{TableParts}
 use Rattle.module_eval.specs.inside.Kept.{AreKept, IsKept, IsRun, StandsOr}
 use Rattle.module_eval.specs.inside.Meant.{IsBuilt, Means}
-use Rattle.module_eval.specs.inside.Times.{moved, moved_in, once, spent}
+use Rattle.module_eval.specs.inside.Times.{moved, moved_in, once, away}
 use Rattle.module_eval.specs.inside.Walked.{tree_in}
 use Rattle.module_eval.specs.declared.memo.Kept.{Kept}
 use Rattle.module_eval.proofs.Planned.{looked_up}
@@ -116,7 +117,8 @@ pub again_means : (ns : Space) (path : Name) (kept : Kept) (first k : ℕ) (t : 
     → kept.built ≡ Some (Ok old) → first ≡ raised k kept.first → IsInstance k old table
     → Means false (Built table) t
 again_means ns path kept first k t old table h run there number instance =
-    let stands = subst (λ (o : Option (Result TableParts Refusal)). StandsOr o h.term) there h.stands in
+    let stands =
+    subst (λ (o : Option (Result TableParts Refusal)). StandsOr o h.term) there h.stands in
     let same = same_run ns path kept.first first k h.term t h.run run number in (
       subst (λ (u : Term). StandsFor table u) (sym same) (instance h.term stands.0),
       ap first_refusal same ∙ first_refusal_shifted k h.term ∙ stands.1,
@@ -127,7 +129,8 @@ pub again_failed : (ns : Space) (path : Name) (kept : Kept) (first k : ℕ) (t :
     → first ≡ raised k kept.first
     → Means false (Failed x) t
 again_failed ns path kept first k t x h run there number =
-    let stands = subst (λ (o : Option (Result TableParts Refusal)). StandsOr o h.term) there h.stands in
+    let stands =
+    subst (λ (o : Option (Result TableParts Refusal)). StandsOr o h.term) there h.stands in
     let same = same_run ns path kept.first first k h.term t h.run run number in
     ap first_refusal same ∙ first_refusal_shifted k h.term ∙ stands
 
@@ -162,23 +165,23 @@ moved_few None = omega arith
 moved_few (Some r) = omega arith
 
 pub inserted_spent : (all : List (Name × Kept)) (p : Name) (kept : Kept) (q : Name)
-    → spent (insert_entry same_name all p kept) q ≤ spent all q + once q p
+    → away (insert_entry same_name all p kept) q ≤ away all q + once q p
 inserted_spent all p kept q = go (same_name q p) (ap moved_in (looked_up all p q kept))
   where
-    go : (b : Bool) → spent (insert_entry same_name all p kept) q
+    go : (b : Bool) → away (insert_entry same_name all p kept) q
         ≡ moved_in (cond b (Some kept) (lookup (same_name q) all))
-        → spent (insert_entry same_name all p kept) q ≤ spent all q + cond b 1 0
+        → away (insert_entry same_name all p kept) q ≤ away all q + cond b 1 0
     go true e = let few = moved_few kept.built in omega (arith, e, few)
     go false e = omega (arith, e)
 
 pub inserted_unspent : (all : List (Name × Kept)) (p : Name) (kept : Kept)
     → moved kept.built ≡ 0 → (q : Name)
-    → spent (insert_entry same_name all p kept) q ≤ spent all q
+    → away (insert_entry same_name all p kept) q ≤ away all q
 inserted_unspent all p kept none q =
     go (same_name q p) (ap moved_in (looked_up all p q kept))
   where
-    go : (b : Bool) → spent (insert_entry same_name all p kept) q
+    go : (b : Bool) → away (insert_entry same_name all p kept) q
         ≡ moved_in (cond b (Some kept) (lookup (same_name q) all))
-        → spent (insert_entry same_name all p kept) q ≤ spent all q
+        → away (insert_entry same_name all p kept) q ≤ away all q
     go true e = omega (arith, e, none)
     go false e = omega (arith, e)

@@ -29,7 +29,7 @@ back_on ns counted a b d h k = record {
   deepens =
       record { deeper = omega (arith, h.deepens.deeper, k.deepens.deeper); low = k.deepens.low };
   known = k.known;
-  spent = k.spent;
+  away = k.away;
 }
 
 pub ready_again : (ns : Space) (a b : Walk) → MayGoOn ns a → CountOn a.counts b.counts
@@ -40,7 +40,7 @@ ready_again ns a b h n k = record {
   low = k.deepens.low;
   kept = k.kept;
   known = k.known refl;
-  spent = k.spent;
+  away = k.away;
 }
 
 -- up to there it only began nodes
@@ -57,7 +57,7 @@ back_from ns counted a b d above memo read k =
           (subst (λ (m : Memo). is_built m.kept.entries q ≡ true) (sym memo) h);
       deepens = record { deeper = omega (arith, deepest, k.deepens.deeper); low = k.deepens.low };
       known = k.known;
-      spent = k.spent;
+      away = k.away;
     }
 
 -- a path was read, at which nothing is opened
@@ -70,7 +70,7 @@ pub back_object : {X E : Type 0} (ns : Space) (counted : Bool) (a : Walk) (new :
     → OnOk r (StayRead a.counts.read.entries new.read.entries)
     → OnOk r (AreSpent ns a.plan new.read.entries a.memo.kept.entries)
     → OnOk r (ComesBack ns counted a (record a { counts = new }))
-back_object ns counted a new p e f (Ok x) h there is found alone stay spent = record {
+back_object ns counted a new p e f (Ok x) h there is found alone stay away = record {
   above = refl;
   found = found ns there;
   kept = h.kept;
@@ -79,9 +79,9 @@ back_object ns counted a new p e f (Ok x) h there is found alone stay spent = re
   known = λ c.
       known_object ns a.above a.above a.counts.read.entries new.read.entries a.memo.apart
       a.memo.kept.entries p f is alone stay h.known;
-  spent = spent;
+  away = away;
 }
-back_object ns counted a new p e f (Err x) h there is found alone stay spent = tt
+back_object ns counted a new p e f (Err x) h there is found alone stay away = tt
 
 pub max_low : (a b : ℕ) → a ≤ 32 → b ≤ 32 → max a b ≤ 32
 max_low a b h k = omega (arith, h, k)

@@ -15,10 +15,10 @@ use Rattle.omos_model.specs.Namespace.{Space}
 use Rattle.omos_model.specs.Tree.{tree_of}
 use Rattle.omos_model.specs.declared.expr.Expr.{Expr}
 use Rattle.omos_model.proofs.Names.{same_name-refl, same_name-true}
-use Rattle.module_eval.specs.inside.Plans.{AreCounts, Covers, IsCounted, StayCounted, count_in}
+use Rattle.module_eval.specs.inside.Plans.{AreCounts, Covers, IsCounted, StayCounted, uses_counted}
 use Rattle.module_eval.specs.inside.Plans.{count_of}
-use Rattle.module_eval.specs.inside.Plans.{times_waiting, with_uses}
-use Rattle.module_eval.specs.inside.Times.{never, spent, times, times_among, times_in, times_of}
+use Rattle.module_eval.specs.inside.Plans.{occurs_waiting, with_uses}
+use Rattle.module_eval.specs.inside.Times.{never, away, occurs, occurs_among, occurs_in, occurs_of}
 use Rattle.module_eval.specs.declared.memo.Kept.{Kept}
 use Rattle.module_eval.proofs.Beside.{read_keys, read_still}
 use Rattle.module_eval.proofs.Times.{of_more, read_here}
@@ -67,9 +67,9 @@ looked_up (e ∷ es) p q v = go (same_name p e.0) refl (looked_up es p q v)
 
 pub count_after : (es : List (Name × ℕ)) (p q : Name) (n : ℕ)
     → count_of (insert_entry same_name es p n) q ≡ cond (same_name q p) n (count_of es q)
-count_after es p q n = ap count_in (looked_up es p q n) ∙ go (same_name q p)
+count_after es p q n = ap uses_counted (looked_up es p q n) ∙ go (same_name q p)
   where
-    go : (b : Bool) → count_in (cond b (Some n) (lookup (same_name q) es))
+    go : (b : Bool) → uses_counted (cond b (Some n) (lookup (same_name q) es))
         ≡ cond b n (count_of es q)
     go true = refl
     go false = refl
@@ -102,24 +102,24 @@ counted_more ns es p before n sum waiting there adds h = record { each = each }
         (sym (is_some-lookup (same_name p) es) ∙ ap is_some there)
 
     each : (q : Name) → count_of (insert_entry same_name es p sum) q ≤ 1
-        → times_of ns (keys_of (insert_entry same_name es p sum)) q
-        ≤ count_of (insert_entry same_name es p sum) q + times_waiting waiting q + 0
+        → occurs_of ns (keys_of (insert_entry same_name es p sum)) q
+        ≤ count_of (insert_entry same_name es p sum) q + occurs_waiting waiting q + 0
     each q few = go (same_name q p) refl (count_after es p q sum) (h.each q)
       where
-        same : times_of ns (keys_of (insert_entry same_name es p sum)) q
-            ≡ times_of ns (keys_of es) q
-        same = ap (λ ks. times_of ns ks q) keys
+        same : occurs_of ns (keys_of (insert_entry same_name es p sum)) q
+            ≡ occurs_of ns (keys_of es) q
+        same = ap (λ ks. occurs_of ns ks q) keys
 
         go : (b : Bool) → same_name q p ≡ b
             → count_of (insert_entry same_name es p sum) q ≡ cond b sum (count_of es q)
-            → (count_of es q ≤ 1 → times_of ns (keys_of es) q
-            ≤ count_of es q + times_waiting waiting q + cond (same_name q p) n 0)
-            → times_of ns (keys_of (insert_entry same_name es p sum)) q
-            ≤ count_of (insert_entry same_name es p sum) q + times_waiting waiting q + 0
+            → (count_of es q ≤ 1 → occurs_of ns (keys_of es) q
+            ≤ count_of es q + occurs_waiting waiting q + cond (same_name q p) n 0)
+            → occurs_of ns (keys_of (insert_entry same_name es p sum)) q
+            ≤ count_of (insert_entry same_name es p sum) q + occurs_waiting waiting q + 0
         go true is e old =
             let all = adds (omega (arith, e, few)) in
-            let here = ap (λ r. count_in (lookup (same_name r) es)) (same_name-true q p is)
-            ∙ ap count_in there in
+            let here = ap (λ r. uses_counted (lookup (same_name r) es)) (same_name-true q p is)
+            ∙ ap uses_counted there in
             let uses = ap (λ c. cond c n 0) is in
             let bound = old (omega (arith, all, here, e, few)) in
             omega (arith, same, all, here, e, uses, bound)
@@ -131,7 +131,7 @@ counted_more ns es p before n sum waiting there adds h = record { each = each }
 -- a path wasn't counted before
 pub counted_new : (ns : Space) (es : List (Name × ℕ)) (p : Name) (n : ℕ)
     (waiting more : List (List Expr)) → lookup (same_name p) es ≡ None
-    → ((q : Name) → times_waiting waiting q + times_in q (source ns p) ≤ times_waiting more q)
+    → ((q : Name) → occurs_waiting waiting q + occurs_in q (source ns p) ≤ occurs_waiting more q)
     → AreCounts ns (with_uses n p) es waiting
     → AreCounts ns never (insert_entry same_name es p n) more
 counted_new ns es p n waiting more none waits h = record { each = each }
@@ -142,23 +142,23 @@ counted_new ns es p n waiting more none waits h = record { each = each }
         ∙ ap (λ b. cond b (keys_of es) (keys_of es ++ p ∷ [])) (uncounted es p none)
 
     each : (q : Name) → count_of (insert_entry same_name es p n) q ≤ 1
-        → times_of ns (keys_of (insert_entry same_name es p n)) q
-        ≤ count_of (insert_entry same_name es p n) q + times_waiting more q + 0
+        → occurs_of ns (keys_of (insert_entry same_name es p n)) q
+        ≤ count_of (insert_entry same_name es p n) q + occurs_waiting more q + 0
     each q few = go (same_name q p) refl (count_after es p q n) (h.each q)
       where
-        same : times_of ns (keys_of (insert_entry same_name es p n)) q
-            ≡ times_of ns (keys_of es) q + times_in q (source ns p)
-        same = ap (λ ks. times_of ns ks q) keys ∙ of_more ns (keys_of es) p q
+        same : occurs_of ns (keys_of (insert_entry same_name es p n)) q
+            ≡ occurs_of ns (keys_of es) q + occurs_in q (source ns p)
+        same = ap (λ ks. occurs_of ns ks q) keys ∙ of_more ns (keys_of es) p q
 
         go : (b : Bool) → same_name q p ≡ b
             → count_of (insert_entry same_name es p n) q ≡ cond b n (count_of es q)
-            → (count_of es q ≤ 1 → times_of ns (keys_of es) q
-            ≤ count_of es q + times_waiting waiting q + cond (same_name q p) n 0)
-            → times_of ns (keys_of (insert_entry same_name es p n)) q
-            ≤ count_of (insert_entry same_name es p n) q + times_waiting more q + 0
+            → (count_of es q ≤ 1 → occurs_of ns (keys_of es) q
+            ≤ count_of es q + occurs_waiting waiting q + cond (same_name q p) n 0)
+            → occurs_of ns (keys_of (insert_entry same_name es p n)) q
+            ≤ count_of (insert_entry same_name es p n) q + occurs_waiting more q + 0
         go true is e old =
-            let here = ap (λ r. count_in (lookup (same_name r) es)) (same_name-true q p is)
-            ∙ ap count_in none in
+            let here = ap (λ r. uses_counted (lookup (same_name r) es)) (same_name-true q p is)
+            ∙ ap uses_counted none in
             let uses = ap (λ c. cond c n 0) is in
             let bound = old (omega (arith, here)) in
             let wait = waits q in
@@ -172,20 +172,20 @@ counted_new ns es p n waiting more none waits h = record { each = each }
 -- other expressions wait
 pub counts_so : (ns : Space) (es : List (Name × ℕ)) (more left : Name → ℕ)
     (waiting next : List (List Expr))
-    → ((q : Name) → times_waiting waiting q + more q ≤ times_waiting next q + left q)
+    → ((q : Name) → occurs_waiting waiting q + more q ≤ occurs_waiting next q + left q)
     → AreCounts ns more es waiting → AreCounts ns left es next
 counts_so ns es more left waiting next less h = record {
   each = λ q few. let bound = h.each q few in let waits = less q in omega (arith, bound, waits);
 }
 
 pub one_waiting : (waiting : List (List Expr)) (x : Expr) (q : Name)
-    → times_waiting (waiting ++ (x ∷ []) ∷ []) q ≡ times_waiting waiting q + times q (tree_of x)
+    → occurs_waiting (waiting ++ (x ∷ []) ∷ []) q ≡ occurs_waiting waiting q + occurs q (tree_of x)
 one_waiting waiting x q =
-    let more = sum_by_push (λ xs. times_among xs q) waiting (x ∷ []) in omega (arith, more)
+    let more = sum_by_push (λ xs. occurs_among xs q) waiting (x ∷ []) in omega (arith, more)
 
 pub more_waiting : (waiting : List (List Expr)) (xs : List Expr) (q : Name)
-    → times_waiting (waiting ++ xs ∷ []) q ≡ times_waiting waiting q + times_among xs q
-more_waiting waiting xs q = sum_by_push (λ ys. times_among ys q) waiting xs
+    → occurs_waiting (waiting ++ xs ∷ []) q ≡ occurs_waiting waiting q + occurs_among xs q
+more_waiting waiting xs q = sum_by_push (λ ys. occurs_among ys q) waiting xs
 
 -- a sum that stays in range
 pub adds_up : (a b sum : ℕ) → sum ≡ min (a + b) 4294967295 → sum ≤ 1 → sum ≡ a + b
@@ -225,7 +225,7 @@ pub covered : (ns : Space) (counts last : List (Name × ℕ)) (read : List (Name
     (all : List (Name × Kept))
     → ((q : Name) → is_among (keys_of read) q ≡ true
     → (is_among (keys_of counts) q || is_among [] q) ≡ true)
-    → StayCounted counts last → AreCounts ns never last [] → ((p : Name) → spent all p ≡ 0)
+    → StayCounted counts last → AreCounts ns never last [] → ((p : Name) → away all p ≡ 0)
     → Covers ns last read all
 covered ns counts last read all named stay h unspent = record {
   each = λ p few. let bound = h.each p few in omega (arith, bound);

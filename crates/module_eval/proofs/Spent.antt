@@ -1,5 +1,6 @@
 -- What is known of tables that are gone, as paths are read and used.
-use Rattle.std.proofs.Common.{◌≡◌, ◌∙◌, ℕ, zero, suc, ◌+◌, ◌≤◌, Bool, true, false, cond, List, Option}
+use Rattle.std.proofs.Common.{◌≡◌, ◌∙◌, ℕ, zero, suc, ◌+◌, ◌≤◌, Bool, true, false, cond, List}
+use Rattle.std.proofs.Common.{Option}
 use Rattle.std.proofs.Common.{Some, None, refl, sym, ap, subst, arith, true≢false}
 use Rattle.std.specs.Borrow.{Bor}
 use Rattle.std.specs.List.{IsDistinct}
@@ -14,10 +15,10 @@ use Rattle.omos_model.specs.Tree.{Tree}
 use Rattle.omos_model.specs.declared.entry.Stamped.{Stamped}
 use Rattle.omos_model.proofs.Names.{same_name-refl, same_name-true}
 use Rattle.module_eval.specs.Costs.{IsReadAlone}
-use Rattle.module_eval.specs.inside.Plans.{AreSpent, Covers, IsFew, IsPlanned, IsPlannedFor}
-use Rattle.module_eval.specs.inside.Plans.{IsCounted, count_in, count_of}
-use Rattle.module_eval.specs.inside.Times.{Affords, Spares, never, once, spent, taken, times}
-use Rattle.module_eval.specs.inside.Times.{times_in, times_of, times_read}
+use Rattle.module_eval.specs.inside.Plans.{AreSpent, Covers, IsUsedOnce, IsPlanned, IsPlannedFor}
+use Rattle.module_eval.specs.inside.Plans.{IsCounted, uses_counted, count_of}
+use Rattle.module_eval.specs.inside.Times.{Affords, Spares, never, once, away, away_in, occurs}
+use Rattle.module_eval.specs.inside.Times.{occurs_in, occurs_of, occurs_read}
 use Rattle.module_eval.specs.inside.Walks.{IsOwed}
 use Rattle.module_eval.specs.declared.memo.Kept.{Kept}
 use Rattle.module_eval.specs.declared.plan.Plan.{Plan}
@@ -49,7 +50,7 @@ planned_read ns (Counted counts) old new all p alone for h = record {
 
 pub spent_read : (ns : Space) (plan : Plan) (old new : List (Name × Bor Stamped))
     (all : List (Name × Kept)) (p : Name) → IsReadAlone old new p
-    → ((q : Name) → times_read ns old q ≤ times_read ns new q) → IsPlannedFor plan p
+    → ((q : Name) → occurs_read ns old q ≤ occurs_read ns new q) → IsPlannedFor plan p
     → AreSpent ns plan old all → AreSpent ns plan new all
 spent_read ns plan old new all p alone grown for h = record {
   planned = planned_read ns plan old new all p alone for h.planned;
@@ -60,15 +61,15 @@ spent_read ns plan old new all p alone grown for h = record {
 
 within : (ns : Space) (counts : List (Name × ℕ)) (read : List (Name × Bor Stamped))
     (all : List (Name × Kept)) (p : Name) → IsDistinct same_name (keys_of read)
-    → Covers ns counts read all → times_read ns read p ≤ times_of ns (keys_of counts) p
+    → Covers ns counts read all → occurs_read ns read p ≤ occurs_of ns (keys_of counts) p
 within ns counts read all p once h =
-    sum_within (λ q. times_in p (source ns q)) (keys_of read) (keys_of counts) once inside
+    sum_within (λ q. occurs_in p (source ns q)) (keys_of read) (keys_of counts) once inside
   where
-    inside : (q : Name) → is_among (keys_of read) q ≡ true → 1 ≤ times_in p (source ns q)
+    inside : (q : Name) → is_among (keys_of read) q ≡ true → 1 ≤ occurs_in p (source ns q)
         → is_among (keys_of counts) q ≡ true
     inside q r = go (source ns q) refl
       where
-        go : (o : Option Source) → source ns q ≡ o → 1 ≤ times_in p o
+        go : (o : Option Source) → source ns q ≡ o → 1 ≤ occurs_in p o
             → is_among (keys_of counts) q ≡ true
         go None e k = absurd (omega (arith, k))
         go (Some (Object f)) e k = absurd (omega (arith, k))
@@ -77,7 +78,7 @@ within ns counts read all p once h =
 -- a path that is named is among those that were counted
 pub planned_named : (ns : Space) (plan : Plan) (read : List (Name × Bor Stamped))
     (all : List (Name × Kept)) (p : Name) → IsDistinct same_name (keys_of read)
-    → IsPlanned ns plan read all → 1 ≤ times_read ns read p → IsPlannedFor plan p
+    → IsPlanned ns plan read all → 1 ≤ occurs_read ns read p → IsPlannedFor plan p
 planned_named ns Unmade read all p once h named = tt
 planned_named ns Unknown read all p once h named = tt
 planned_named ns (Counted counts) read all p once h named =
@@ -93,7 +94,7 @@ planned_named ns (Counted counts) read all p once h named =
         let more = within ns counts.entries read all p once h in
         absurd (omega (arith, none, bound, more, named))
       where
-        look : (o : Option ℕ) → is_some o ≡ false → count_in o ≡ 0
+        look : (o : Option ℕ) → is_some o ≡ false → uses_counted o ≡ 0
         look None f = refl
         look (Some n) f = absurd (true≢false f)
 
@@ -113,12 +114,12 @@ planned_for ns counting false p walk owed once h =
 -- a table that is wanted is there
 wanted : (ns : Space) (plan : Plan) (read : List (Name × Bor Stamped))
     (all : List (Name × Kept)) (p : Name) → IsDistinct same_name (keys_of read)
-    → IsPlanned ns plan read all → spent all p + 1 ≤ times_read ns read p → spent all p ≡ 0
+    → IsPlanned ns plan read all → away all p + 1 ≤ occurs_read ns read p → away all p ≡ 0
 wanted ns Unmade read all p once h due = h p
 wanted ns Unknown read all p once h due = h p
-wanted ns (Counted counts) read all p once h due = go (spent all p) refl
+wanted ns (Counted counts) read all p once h due = go (away all p) refl
   where
-    go : (n : ℕ) → spent all p ≡ n → spent all p ≡ 0
+    go : (n : ℕ) → away all p ≡ n → away all p ≡ 0
     go zero e = e
     go (suc n) e =
         let few = h.few p (omega (arith, e)) in
@@ -130,7 +131,7 @@ pub still_there : (ns : Space) (counting counted : Bool) (p : Name) (walk : Walk
     → IsOwed ns counting counted p walk
     → IsDistinct same_name (keys_of walk.counts.read.entries)
     → AreSpent ns walk.plan walk.counts.read.entries walk.memo.kept.entries
-    → counting ≡ false → spent walk.memo.kept.entries p ≡ 0
+    → counting ≡ false → away walk.memo.kept.entries p ≡ 0
 still_there ns true counted p walk owed once h e = absurd (true≢false e)
 still_there ns false true p walk owed once h e =
     let due = (owed.due refl).each p in
@@ -145,9 +146,9 @@ still_there ns false false p walk owed once h e =
 
 planned_kept : (ns : Space) (plan : Plan) (read : List (Name × Bor Stamped))
     (all new : List (Name × Kept)) (p : Name) (only : Bool)
-    → ((q : Name) → spent new q ≤ spent all q + once q p)
-    → (only ≡ false → (q : Name) → spent new q ≤ spent all q)
-    → (only ≡ true → IsFew plan p) → IsPlanned ns plan read all → IsPlanned ns plan read new
+    → ((q : Name) → away new q ≤ away all q + once q p)
+    → (only ≡ false → (q : Name) → away new q ≤ away all q)
+    → (only ≡ true → IsUsedOnce plan p) → IsPlanned ns plan read all → IsPlanned ns plan read new
 planned_kept ns Unmade read all new p true more same few h = absurd (few refl)
 planned_kept ns Unmade read all new p false more same few h =
     λ q. let less = same refl q in let none = h q in omega (arith, less, none)
@@ -165,7 +166,7 @@ planned_kept ns (Counted counts) read all new p true more same few h = record {
   few = λ q k. go q k (same_name q p) refl;
 }
   where
-    go : (q : Name) → 1 ≤ spent new q → (b : Bool) → same_name q p ≡ b
+    go : (q : Name) → 1 ≤ away new q → (b : Bool) → same_name q p ≡ b
         → count_of counts.entries q ≤ 1
     go q k true e =
         subst (λ (r : Name). count_of counts.entries r ≤ 1) (sym (same_name-true q p e))
@@ -180,20 +181,20 @@ pub record FirstUse
     (ns : Space) (counting : Bool) (p : Name) (x : Tree)
     (read opened after : List (Name × Bor Stamped)) (all nested new : List (Name × Kept))
     : Type 0 where
-  pub named : (q : Name) → spent all q ≤ times_read ns read q
-  pub fresh : (q : Name) → times_read ns read q + times q x ≤ times_read ns opened q
-  pub inside : Spares ns false (λ q. times q x) never opened after all nested
-  pub more : (q : Name) → spent new q ≤ spent nested q + once q p
-  pub idle : counting ≡ true → (q : Name) → spent new q ≤ spent nested q
-  pub owed : counting ≡ false → (q : Name) → spent all q + once q p ≤ times_read ns read q
+  pub named : (q : Name) → away all q ≤ occurs_read ns read q
+  pub fresh : (q : Name) → occurs_read ns read q + occurs q x ≤ occurs_read ns opened q
+  pub inside : Spares ns false (λ q. occurs q x) never opened after all nested
+  pub more : (q : Name) → away new q ≤ away nested q + once q p
+  pub idle : counting ≡ true → (q : Name) → away new q ≤ away nested q
+  pub owed : counting ≡ false → (q : Name) → away all q + once q p ≤ occurs_read ns read q
 
 module _ (ns : Space) (counting : Bool) (p : Name) (x : Tree)
     (read opened after : List (Name × Bor Stamped)) (all nested new : List (Name × Kept))
     (u : FirstUse ns counting p x read opened after all nested new) where
-  first_bound : (q : Name) → spent new q ≤ times_read ns after q
+  first_bound : (q : Name) → away new q ≤ occurs_read ns after q
   first_bound q = go counting refl
     where
-      go : (c : Bool) → counting ≡ c → spent new q ≤ times_read ns after q
+      go : (c : Bool) → counting ≡ c → away new q ≤ occurs_read ns after q
       go true e = omega (arith, u.named q, u.fresh q, u.inside.each q, u.idle e q)
       go false e = omega (arith, u.owed e q, u.fresh q, u.inside.each q, u.more q)
 
@@ -205,20 +206,20 @@ module _ (ns : Space) (counting : Bool) (p : Name) (x : Tree)
   }
     where
       go : (q : Name) (c : Bool) → counting ≡ c
-          → taken counting new q + 0 + times_read ns read q
-          ≤ taken counting all q + once q p + times_read ns after q
+          → away_in counting new q + 0 + occurs_read ns read q
+          ≤ away_in counting all q + once q p + occurs_read ns after q
       go q true e =
-          let one = ap (λ c. taken c new q) e in
-          let two = ap (λ c. taken c all q) e in
+          let one = ap (λ c. away_in c new q) e in
+          let two = ap (λ c. away_in c all q) e in
           omega (arith, one, two, u.fresh q, u.inside.grown q)
       go q false e =
-          let one = ap (λ c. taken c new q) e in
-          let two = ap (λ c. taken c all q) e in
+          let one = ap (λ c. away_in c new q) e in
+          let two = ap (λ c. away_in c all q) e in
           omega (arith, one, two, u.fresh q, u.inside.each q, u.more q)
 
   pub first_spent : (plan : Plan) (only : Bool)
-      → (only ≡ false → (q : Name) → spent new q ≤ spent nested q)
-      → (only ≡ true → IsFew plan p) → IsPlanned ns plan after nested
+      → (only ≡ false → (q : Name) → away new q ≤ away nested q)
+      → (only ≡ true → IsUsedOnce plan p) → IsPlanned ns plan after nested
       → AreSpent ns plan after new
   first_spent plan only same few h = record {
     planned = planned_kept ns plan after nested new p only u.more same few h;
@@ -229,7 +230,7 @@ module _ (ns : Space) (counting : Bool) (p : Name) (x : Tree)
 
 pub used_again : (ns : Space) (counting : Bool) (p : Name)
     (read after : List (Name × Bor Stamped)) (all : List (Name × Kept))
-    → ((q : Name) → times_read ns read q ≤ times_read ns after q)
+    → ((q : Name) → occurs_read ns read q ≤ occurs_read ns after q)
     → Spares ns counting (λ q. once q p) never read after all all
 used_again ns counting p read after all grown = record {
   each = λ q. let more = grown q in omega (arith, more);
@@ -240,8 +241,8 @@ used_again ns counting p read after all grown = record {
 -- its expression was gone through again, counting
 pub used_counting : (ns : Space) (counting : Bool) (p : Name) (x : Tree)
     (read entered after : List (Name × Bor Stamped)) (all new : List (Name × Kept))
-    → ((q : Name) → times_read ns read q ≤ times_read ns entered q)
-    → Spares ns true (λ q. times q x) never entered after all new
+    → ((q : Name) → occurs_read ns read q ≤ occurs_read ns entered q)
+    → Spares ns true (λ q. occurs q x) never entered after all new
     → Spares ns counting (λ q. once q p) never read after all new
 used_counting ns counting p x read entered after all new grown h = record {
   each = λ q. go q counting;
@@ -249,25 +250,25 @@ used_counting ns counting p x read entered after all new grown h = record {
   grown = λ q. let more = grown q in omega (arith, more, h.grown q);
 }
   where
-    go : (q : Name) (c : Bool) → taken c new q + 0 + times_read ns read q
-        ≤ taken c all q + once q p + times_read ns after q
+    go : (q : Name) (c : Bool) → away_in c new q + 0 + occurs_read ns read q
+        ≤ away_in c all q + once q p + occurs_read ns after q
     go q true = let more = grown q in omega (arith, more, h.grown q)
     go q false = let more = grown q in omega (arith, more, h.idle refl q)
 
 pub can_count : (ns : Space) (p : Name) (x : Tree) (read : List (Name × Bor Stamped))
     (all : List (Name × Kept)) → source ns p ≡ Some (Blueprint x)
-    → is_among (keys_of read) p ≡ true → Affords ns true (λ q. times q x) read all
+    → is_among (keys_of read) p ≡ true → Affords ns true (λ q. occurs q x) read all
 can_count ns p x read all there here = record {
   each = λ q.
       let own = of_member ns (keys_of read) p q here in
-      let same = ap (times_in q) there in
+      let same = ap (occurs_in q) there in
       omega (arith, own, same);
 }
 
 pub can_nest : (ns : Space) (x : Tree) (read opened : List (Name × Bor Stamped))
-    (all : List (Name × Kept)) → ((q : Name) → spent all q ≤ times_read ns read q)
-    → ((q : Name) → times_read ns read q + times q x ≤ times_read ns opened q)
-    → Affords ns false (λ q. times q x) opened all
+    (all : List (Name × Kept)) → ((q : Name) → away all q ≤ occurs_read ns read q)
+    → ((q : Name) → occurs_read ns read q + occurs q x ≤ occurs_read ns opened q)
+    → Affords ns false (λ q. occurs q x) opened all
 can_nest ns x read opened all named fresh = record {
   each = λ q. let few = named q in let more = fresh q in omega (arith, few, more);
 }
@@ -318,10 +319,10 @@ uses_none ns counting owed left read all less = record {
 -- a use that is owed where operators are applied
 pub owes : (ns : Space) (counting : Bool) (p : Name) (read : List (Name × Bor Stamped))
     (all : List (Name × Kept)) → Affords ns counting (λ q. once q p) read all
-    → counting ≡ false → (q : Name) → spent all q + once q p ≤ times_read ns read q
+    → counting ≡ false → (q : Name) → away all q + once q p ≤ occurs_read ns read q
 owes ns counting p read all h e q =
     let due = h.each q in
-    let is = ap (λ c. taken c all q) e in
+    let is = ap (λ c. away_in c all q) e in
     omega (arith, due, is)
 
 -- the same uses, counted otherwise
@@ -352,8 +353,8 @@ can_from ns counting owed more read other all new reads kept less h = record {
   each = λ q.
       let one = h.each q in
       let two = less q in
-      let three = ap (λ r. times_read ns r q) reads in
-      let four = ap (λ m. taken counting m q) kept in
+      let three = ap (λ r. occurs_read ns r q) reads in
+      let four = ap (λ m. away_in counting m q) kept in
       omega (arith, one, two, three, four);
 }
 
@@ -366,16 +367,16 @@ uses_from ns counting owed left more rest read other after all same new reads ke
   each = λ q.
       let one = h.each q in
       let two = is q in
-      let three = ap (λ r. times_read ns r q) reads in
-      let four = ap (λ m. taken counting m q) kept in
+      let three = ap (λ r. occurs_read ns r q) reads in
+      let four = ap (λ m. away_in counting m q) kept in
       omega (arith, one, two, three, four);
   idle = λ e q.
       let one = h.idle e q in
-      let three = ap (λ r. times_read ns r q) reads in
-      let four = ap (λ m. spent m q) kept in
+      let three = ap (λ r. occurs_read ns r q) reads in
+      let four = ap (λ m. away m q) kept in
       omega (arith, one, three, four);
   grown = λ q.
       let one = h.grown q in
-      let three = ap (λ r. times_read ns r q) reads in
+      let three = ap (λ r. occurs_read ns r q) reads in
       omega (arith, one, three);
 }

@@ -11,43 +11,43 @@ use Rattle.omos_model.specs.Names.{Name, same_name}
 use Rattle.omos_model.specs.NameLists.{is_among}
 use Rattle.omos_model.specs.Namespace.{Space}
 use Rattle.omos_model.proofs.Names.{same_name-refl, same_name-true}
-use Rattle.module_eval.specs.inside.Times.{times_in, times_of, times_at, times_left}
+use Rattle.module_eval.specs.inside.Times.{occurs_in, occurs_of, occurs_at, occurs_left}
 use Rattle.module_eval.specs.declared.pending.Pending.{Pending}
 
 -- ---- pending nodes
 
 pub left_more : (all outside : List Pending) (node : Pending) (p : Name)
-    → all ≡ outside ++ node ∷ [] → times_left all p ≡ times_left outside p + times_at p node
+    → all ≡ outside ++ node ∷ [] → occurs_left all p ≡ occurs_left outside p + occurs_at p node
 left_more all outside node p is =
-    let more = sum_by-append (times_at p) outside (node ∷ []) in
-    let one = sum_by-cons (times_at p) node [] in
-    let same = ap (λ ps. times_left ps p) is in
+    let more = sum_by-append (occurs_at p) outside (node ∷ []) in
+    let one = sum_by-cons (occurs_at p) node [] in
+    let same = ap (λ ps. occurs_left ps p) is in
     omega (arith, more, one, same)
 
 -- ---- paths that are read
 
 pub of_more : (ns : Space) (ks : List Name) (q p : Name)
-    → times_of ns (ks ++ q ∷ []) p ≡ times_of ns ks p + times_in p (source ns q)
+    → occurs_of ns (ks ++ q ∷ []) p ≡ occurs_of ns ks p + occurs_in p (source ns q)
 of_more ns ks q p =
-    let weight : Name → ℕ = λ r. times_in p (source ns r) in
+    let weight : Name → ℕ = λ r. occurs_in p (source ns r) in
     let more = sum_by-append weight ks (q ∷ []) in
     let one = sum_by-cons weight q [] in
     omega (arith, more, one)
 
 pub of_grows : (ns : Space) (ks old : List Name) (q p : Name)
-    → ks ≡ cond (is_among old q) old (old ++ q ∷ []) → times_of ns old p ≤ times_of ns ks p
-of_grows ns ks old q p is = go (is_among old q) (ap (λ rs. times_of ns rs p) is)
+    → ks ≡ cond (is_among old q) old (old ++ q ∷ []) → occurs_of ns old p ≤ occurs_of ns ks p
+of_grows ns ks old q p is = go (is_among old q) (ap (λ rs. occurs_of ns rs p) is)
   where
-    go : (b : Bool) → times_of ns ks p ≡ times_of ns (cond b old (old ++ q ∷ [])) p
-        → times_of ns old p ≤ times_of ns ks p
+    go : (b : Bool) → occurs_of ns ks p ≡ occurs_of ns (cond b old (old ++ q ∷ [])) p
+        → occurs_of ns old p ≤ occurs_of ns ks p
     go true e = omega (arith, e)
     go false e = let more = of_more ns old q p in omega (arith, e, more)
 
 pub of_fresh : (ns : Space) (ks old : List Name) (q p : Name)
     → ks ≡ cond (is_among old q) old (old ++ q ∷ []) → is_among old q ≡ false
-    → times_of ns old p + times_in p (source ns q) ≤ times_of ns ks p
+    → occurs_of ns old p + occurs_in p (source ns q) ≤ occurs_of ns ks p
 of_fresh ns ks old q p is out =
-    let same = ap (λ rs. times_of ns rs p) (is ∙ ap (λ b. cond b old (old ++ q ∷ [])) out) in
+    let same = ap (λ rs. occurs_of ns rs p) (is ∙ ap (λ b. cond b old (old ++ q ∷ [])) out) in
     let more = of_more ns old q p in
     omega (arith, same, more)
 
@@ -69,18 +69,18 @@ read_here ks old p is = ap (λ qs. is_among qs p) is ∙ go (is_among old p) ref
 
 -- what one of the paths names is named by all of them
 pub of_member : (ns : Space) (ks : List Name) (q p : Name) → is_among ks q ≡ true
-    → times_in p (source ns q) ≤ times_of ns ks p
+    → occurs_in p (source ns q) ≤ occurs_of ns ks p
 of_member ns [] q p h = absurd (true≢false (sym h))
 of_member ns (k ∷ ks) q p h = go (same_name q k) refl (of_member ns ks q p)
   where
-    first : times_of ns (k ∷ ks) p ≡ times_in p (source ns k) + times_of ns ks p
-    first = sum_by-cons (λ r. times_in p (source ns r)) k ks
+    first : occurs_of ns (k ∷ ks) p ≡ occurs_in p (source ns k) + occurs_of ns ks p
+    first = sum_by-cons (λ r. occurs_in p (source ns r)) k ks
 
     go : (b : Bool) → same_name q k ≡ b
-        → (is_among ks q ≡ true → times_in p (source ns q) ≤ times_of ns ks p)
-        → times_in p (source ns q) ≤ times_of ns (k ∷ ks) p
+        → (is_among ks q ≡ true → occurs_in p (source ns q) ≤ occurs_of ns ks p)
+        → occurs_in p (source ns q) ≤ occurs_of ns (k ∷ ks) p
     go true e later =
-        let same = ap (λ r. times_in p (source ns r)) (same_name-true q k e) in
+        let same = ap (λ r. occurs_in p (source ns r)) (same_name-true q k e) in
         omega (arith, first, same)
     go false e later =
         let rest = later (sym (ap (λ b. b || is_among ks q) e) ∙ h) in

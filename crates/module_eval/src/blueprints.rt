@@ -11,7 +11,7 @@ ghost use Rattle.module_eval.specs.inside.Counted.{visit_of};
 ghost use Rattle.module_eval.specs.inside.Kept.{IsKept};
 ghost use Rattle.module_eval.specs.inside.Walked.{IsFree, IsLimit, Walked, tree_in};
 ghost use Rattle.module_eval.specs.inside.Plans.{IsPlannedFor};
-ghost use Rattle.module_eval.specs.inside.Times.{moved, never, once, times};
+ghost use Rattle.module_eval.specs.inside.Times.{moved, never, once, occurs};
 ghost use Rattle.module_eval.specs.inside.Walks.{CanUse, Charges, ComesBack, CountOn, GoesTo};
 ghost use Rattle.module_eval.specs.inside.Walks.{IsCharged, IsOwed, IsThere, MayGoOn, Uses};
 ghost use Rattle.module_eval.specs.inside.Walks.{space_of};
@@ -153,7 +153,7 @@ fn visit_nested<'a, L: Ledger>(
 ) -> Result<Part, WalkFault>
     requires ready { MayGoOn (space_of place.now) walk.old }
     requires uses { CanUse (space_of place.now) place.now.counting
-        (λ p. times p (tree_of image.now.body)) walk.old }
+        (λ p. occurs p (tree_of image.now.body)) walk.old }
     ensures walk { (limit : ℕ) → IsLimit result walk.new.memo.deepest limit
         → Walked place.now.counting result (nested_on (tree_in (space_of place.now) limit
         walk.old.above place.now.at.now (tree_of image.now.body)) (visit_of walk.old.counts))
@@ -161,7 +161,7 @@ fn visit_nested<'a, L: Ledger>(
     ensures counts { CountOn walk.old.counts walk.new.counts }
     ensures back { OnOk result (ComesBack (space_of place.now) true walk.old walk.new) }
     ensures uses { OnOk result (Uses (space_of place.now) place.now.counting
-        (λ p. times p (tree_of image.now.body)) never walk.old walk.new) }
+        (λ p. occurs p (tree_of image.now.body)) never walk.old walk.new) }
     ensures cost { Charges (space_of place.now) place.now.counting
         (operators (tree_of image.now.body)) 0 walk.old.counts walk.new.counts
         steps.old steps.new }

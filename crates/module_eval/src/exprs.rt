@@ -10,7 +10,8 @@ ghost use Rattle.module_eval.specs.Costs.{joins, operators, owed, owed_by};
 ghost use Rattle.module_eval.specs.inside.Counted.{visit_of};
 ghost use Rattle.module_eval.specs.inside.Meant.{Means};
 ghost use Rattle.module_eval.specs.inside.Pendings.{Comes, ComesTo, EndsAt, others_in};
-ghost use Rattle.module_eval.specs.inside.Times.{never, times, times_among, times_at, times_left};
+ghost use Rattle.module_eval.specs.inside.Times.{never, occurs, occurs_among, occurs_at};
+ghost use Rattle.module_eval.specs.inside.Times.{occurs_left};
 ghost use Rattle.module_eval.specs.inside.Walked.{IsLimit, Walked, path_in, tree_in};
 ghost use Rattle.module_eval.specs.inside.Walks.{CanUse, Charges, ComesBack, CountOn, EndsFrom};
 ghost use Rattle.module_eval.specs.inside.Walks.{MayGoOn, Uses, space_of};
@@ -40,14 +41,14 @@ pub fn visit_expr<'a, L: Ledger>(
     requires ready { MayGoOn (space_of place.now) walk.old }
     requires formed { IsTrue (is_formed expr.now) }
     requires uses { CanUse (space_of place.now) place.now.counting
-        (λ p. times p (tree_of expr.now)) walk.old }
+        (λ p. occurs p (tree_of expr.now)) walk.old }
     ensures walk { (limit : ℕ) → IsLimit result walk.new.memo.deepest limit
         → Walked place.now.counting result (tree_in (space_of place.now) limit walk.old.above
         place.now.at.now (tree_of expr.now) (visit_of walk.old.counts)) walk.new.counts }
     ensures counts { CountOn walk.old.counts walk.new.counts }
     ensures back { OnOk result (ComesBack (space_of place.now) true walk.old walk.new) }
     ensures uses { OnOk result (Uses (space_of place.now) place.now.counting
-        (λ p. times p (tree_of expr.now)) never walk.old walk.new) }
+        (λ p. occurs p (tree_of expr.now)) never walk.old walk.new) }
     ensures cost { Charges (space_of place.now) place.now.counting (operators (tree_of expr.now)) 0
         walk.old.counts walk.new.counts steps.old steps.new }
 {
@@ -71,7 +72,7 @@ fn descend<'a, L: Ledger>(
     requires ready { MayGoOn (space_of place.now) walk.old }
     requires formed { IsTrue (is_formed expr.now) }
     requires uses { CanUse (space_of place.now) place.now.counting
-        (λ p. times p (tree_of expr.now) + times_left pending.old p) walk.old }
+        (λ p. occurs p (tree_of expr.now) + occurs_left pending.old p) walk.old }
     ensures walk { (limit : ℕ) (end : Trail Term) → IsLimit result walk.new.memo.deepest limit
         → Comes (tree_in (space_of place.now) limit walk.old.above place.now.at.now
         (tree_of expr.now) (visit_of walk.old.counts))
@@ -83,7 +84,7 @@ fn descend<'a, L: Ledger>(
     ensures begun { OnOk result (length pending.new + walk.old.counts.nodes + 1
         ≤ length pending.old + walk.new.counts.nodes) }
     ensures uses { OnOk result (Uses (space_of place.now) place.now.counting
-        (λ p. times p (tree_of expr.now) + times_left pending.old p) (times_left pending.new)
+        (λ p. occurs p (tree_of expr.now) + occurs_left pending.old p) (occurs_left pending.new)
         walk.old walk.new) }
     ensures cost { Charges (space_of place.now) place.now.counting
         (operators (tree_of expr.now) + owed pending.old) (owed pending.new)
@@ -119,7 +120,7 @@ fn resume<'a, L: Ledger>(
 ) -> Result<Part, WalkFault>
     requires ready { MayGoOn (space_of place.now) walk.old }
     requires uses { CanUse (space_of place.now) place.now.counting
-        (λ p. times_at p node + times_left pending.old p) walk.old }
+        (λ p. occurs_at p node + occurs_left pending.old p) walk.old }
     ensures walk { (limit : ℕ) (t : Term) (end : Trail Term)
         → IsLimit result walk.new.memo.deepest limit → Means place.now.counting part t
         → EndsAt place.now.counting (space_of place.now) limit walk.old.above place.now.at.now
@@ -131,7 +132,7 @@ fn resume<'a, L: Ledger>(
     ensures done { OnOk result (length pending.new + walk.old.counts.nodes
         ≤ length pending.old + walk.new.counts.nodes) }
     ensures uses { OnOk result (Uses (space_of place.now) place.now.counting
-        (λ p. times_at p node.entry + times_left pending.old p) (times_left pending.new)
+        (λ p. occurs_at p node.entry + occurs_left pending.old p) (occurs_left pending.new)
         walk.old walk.new) }
     ensures cost { Charges (space_of place.now) place.now.counting
         (owed_by node.entry + owed pending.old) (owed pending.new)
@@ -172,7 +173,7 @@ fn visit_others<'a, L: Ledger>(
 ) -> Result<Part, WalkFault>
     requires ready { MayGoOn (space_of place.now) walk.old }
     requires uses { CanUse (space_of place.now) place.now.counting
-        (λ p. times_among others p + times_left pending.old p) walk.old }
+        (λ p. occurs_among others p + occurs_left pending.old p) walk.old }
     ensures walk { (limit : ℕ) (t : Term) (end : Trail Term)
         → IsLimit result walk.new.memo.deepest limit → Means place.now.counting left t
         → Comes (others_in (path_in (space_of place.now) limit walk.old.above true place.now.at.now)
@@ -186,7 +187,7 @@ fn visit_others<'a, L: Ledger>(
     ensures done { OnOk result (length pending.new + walk.old.counts.nodes
         ≤ length pending.old + walk.new.counts.nodes) }
     ensures uses { OnOk result (Uses (space_of place.now) place.now.counting
-        (λ p. times_among others.entry p + times_left pending.old p) (times_left pending.new)
+        (λ p. occurs_among others.entry p + occurs_left pending.old p) (occurs_left pending.new)
         walk.old walk.new) }
     ensures cost { Charges (space_of place.now) place.now.counting
         (joins others.entry + owed pending.old) (owed pending.new)

@@ -9,7 +9,7 @@ ghost use Rattle.module_eval.specs.inside.Counted.{AreCounted, visit_of};
 ghost use Rattle.module_eval.specs.inside.Kept.{AreKept, Finds, IsKept, IsRun};
 ghost use Rattle.module_eval.specs.inside.Meant.{Means};
 ghost use Rattle.module_eval.specs.inside.Reaches.{Fits, IsReach, with_added};
-ghost use Rattle.module_eval.specs.inside.Times.{moved, once, spent};
+ghost use Rattle.module_eval.specs.inside.Times.{moved, once, away};
 
 use crate::counts::Counts;
 use crate::part::{Part, built};
@@ -162,10 +162,10 @@ impl<'a> Memo<'a> {
         ensures stays { OnOk result (StayBuilt self.old.kept.entries self.new.kept.entries) }
         ensures others { OnOk result
             (IsBuiltAlone self.old.kept.entries self.new.kept.entries path.now) }
-        ensures spent { OnOk result ((q : Name) → spent self.new.kept.entries q
-            ≤ spent self.old.kept.entries q + once q path.now) }
+        ensures away { OnOk result ((q : Name) → away self.new.kept.entries q
+            ≤ away self.old.kept.entries q + once q path.now) }
         ensures unspent { moved kept.built ≡ 0 → OnOk result ((q : Name)
-            → spent self.new.kept.entries q ≤ spent self.old.kept.entries q) }
+            → away self.new.kept.entries q ≤ away self.old.kept.entries q) }
         ensures apart { self.new.apart ≡ self.old.apart }
         ensures deepest { self.new.deepest ≡ self.old.deepest }
     {
@@ -196,10 +196,10 @@ impl<'a> Memo<'a> {
         ensures stays { OnOk result (StayBuilt self.old.kept.entries self.new.kept.entries) }
         ensures others { OnOk result
             (IsBuiltAlone self.old.kept.entries self.new.kept.entries path.now) }
-        ensures spent { OnOk result ((q : Name) → spent self.new.kept.entries q
-            ≤ spent self.old.kept.entries q + once q path.now) }
+        ensures away { OnOk result ((q : Name) → away self.new.kept.entries q
+            ≤ away self.old.kept.entries q + once q path.now) }
         ensures unspent { only ≡ false → OnOk result ((q : Name)
-            → spent self.new.kept.entries q ≤ spent self.old.kept.entries q) }
+            → away self.new.kept.entries q ≤ away self.old.kept.entries q) }
         ensures apart { self.new.apart ≡ self.old.apart }
         ensures deepest { self.new.deepest ≡ self.old.deepest }
     {

@@ -10,7 +10,7 @@ ghost use Rattle.omos_model.specs.Namespace.{Space, look_up};
 ghost use Rattle.module_eval.specs.Costs.{IsReadAlone, StayRead, read_of};
 ghost use Rattle.module_eval.specs.inside.Found.{AreFound};
 ghost use Rattle.module_eval.specs.inside.Plans.{AreSpent, IsPlannedFor};
-ghost use Rattle.module_eval.specs.inside.Times.{times_read};
+ghost use Rattle.module_eval.specs.inside.Times.{occurs_read};
 ghost use Rattle.module_eval.specs.declared.memo.Kept.{Kept};
 ghost use Rattle.module_eval.specs.declared.plan.Plan.{Plan};
 ghost use Rattle.omos_model.specs.Names.{Name};
@@ -45,9 +45,9 @@ pub fn visit_object<'a>(
         → AreFound ns counts.old.read.entries → AreFound ns counts.new.read.entries) }
     ensures grown { (ns : Space) → read_of ns counts.old.read.entries
         ≤ read_of ns counts.new.read.entries }
-    ensures times { (ns : Space) (p : Name) → times_read ns counts.old.read.entries p
-        ≤ times_read ns counts.new.read.entries p }
-    ensures spent { OnOk result ((ns : Space) (plan : Plan) (all : List (Name × Kept))
+    ensures occurs { (ns : Space) (p : Name) → occurs_read ns counts.old.read.entries p
+        ≤ occurs_read ns counts.new.read.entries p }
+    ensures away { OnOk result ((ns : Space) (plan : Plan) (all : List (Name × Kept))
         → IsPlannedFor plan path.now → AreSpent ns plan counts.old.read.entries all
         → AreSpent ns plan counts.new.read.entries all) }
     ensures alone { OnOk result

@@ -2,7 +2,7 @@
 
 ghost use Rattle.std.specs.Prelude.{◌≡◌, ◌+◌, ◌≤◌, false, true, OnOk};
 ghost use Rattle.module_eval.specs.inside.Plans.{IsPlannedFor};
-ghost use Rattle.module_eval.specs.inside.Times.{never, once, spent};
+ghost use Rattle.module_eval.specs.inside.Times.{never, once, away};
 ghost use Rattle.module_eval.specs.inside.Walks.{ComesBack, CountOn, GoesTo, HasSpent, IsCharged};
 ghost use Rattle.module_eval.specs.inside.Walks.{IsOwed, IsThere, MayGoOn, Uses, space_of};
 
@@ -22,10 +22,10 @@ use std::sync::ledger::Ledger;
 /// wanted, and the path is among those that were counted.
 #[inline(always)]
 fn has_uses(place: &Place<'_>, counted: bool, path: &PathName, walk: &Walk<'_>)
-    requires spent { HasSpent (space_of place.now) walk.now }
+    requires away { HasSpent (space_of place.now) walk.now }
     requires owed { IsOwed (space_of place.now) place.now.counting counted path.now walk.now }
     ensures planned { IsPlannedFor walk.now.plan path.now }
-    ensures left { place.now.counting ≡ false → spent walk.now.memo.kept.entries path.now ≡ 0 }
+    ensures left { place.now.counting ≡ false → away walk.now.memo.kept.entries path.now ≡ 0 }
 {
     walk.counts.each_once();
 }

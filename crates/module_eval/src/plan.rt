@@ -7,7 +7,7 @@ ghost use Rattle.std.specs.Prelude.{◌≡◌, [], false, true, IfOk, List, OnOk
 ghost use Rattle.omos_model.specs.Names.{Name};
 ghost use Rattle.omos_model.specs.Namespace.{Space};
 ghost use Rattle.module_eval.specs.declared.memo.Kept.{Kept};
-ghost use Rattle.module_eval.specs.inside.Plans.{AreCounts, IsFew, IsPlanned, StayCounted};
+ghost use Rattle.module_eval.specs.inside.Plans.{AreCounts, IsUsedOnce, IsPlanned, StayCounted};
 ghost use Rattle.module_eval.specs.inside.Plans.{IsCounted, with_operands, with_uses};
 ghost use Rattle.module_eval.specs.inside.Times.{never};
 ghost use Rattle.module_eval.specs.inside.Walks.{space_of};
@@ -44,11 +44,11 @@ pub enum Plan<'a> {
 fn count<'a>(
     snap: &'a Snap,
     path: &'a PathName,
-    times: u32,
+    occurs: u32,
     counts: &mut IndexMap<ReadPath<'a>, u32, Seed>,
     waiting: &mut Items<Operands<'a>>,
 ) -> Result<(), NoMemory>
-    requires { AreCounts snap.now.entries (with_uses times path.now) counts.old.entries
+    requires { AreCounts snap.now.entries (with_uses occurs path.now) counts.old.entries
         waiting.old }
     ensures counts { OnOk result
         (AreCounts snap.now.entries never counts.new.entries waiting.new) }
@@ -56,11 +56,11 @@ fn count<'a>(
     ensures stay { OnOk result (StayCounted counts.old.entries counts.new.entries) }
 {
     if let Some(before) = counts.get(&ReadPath::of(path)) {
-        let sum = before.saturating_add(times);
+        let sum = before.saturating_add(occurs);
         counts.insert(ReadPath::of(path), sum)?;
         return Ok(());
     }
-    counts.insert(ReadPath::of(path), times)?;
+    counts.insert(ReadPath::of(path), occurs)?;
     let Some(found) = snap.get(path) else {
         return Ok(());
     };
@@ -155,7 +155,7 @@ impl<'a> Plan<'a> {
 
     /// Whether no more than one use of the path was counted.
     fn is_few(&self, path: &PathName) -> bool
-        ensures { result ≡ true → IsFew self.now path.now }
+        ensures { result ≡ true → IsUsedOnce self.now path.now }
     {
         match self {
             Plan::Counted(counts) => match counts.get(&ReadPath::of(path)) {
@@ -176,7 +176,7 @@ impl<'a> Plan<'a> {
         ensures planned { OnOk result ((all : List (Name × Kept))
             → IsPlanned (space_of place.now) self.old counts.now.read.entries all
             → IsPlanned (space_of place.now) self.new counts.now.read.entries all) }
-        ensures few { IfOk result (λ only. only ≡ true → IsFew self.new path.now) }
+        ensures few { IfOk result (λ only. only ≡ true → IsUsedOnce self.new path.now) }
         ensures idle { IfOk result (λ only. place.now.counting ≡ true → only ≡ false) }
     {
         if place.counting {

@@ -38,8 +38,8 @@ fn place(store: &mut Store, ticket: &Ticket, planned: &Planned) -> PlaceReply
     store.place(ticket, planned)
 }
 
-/// How the ticket's request may end, whose plan this is: it is placed and linked. The plan is lent, so
-/// that nothing of it is let go of here.
+/// How the ticket's request may end, whose plan this is: it is placed and linked. The plan is lent,
+/// so that nothing of it is let go of here.
 fn outcome_of_plan(alloc: Global, store: &mut Store, ticket: &Ticket, planned: &Planned) -> Outcome
     requires ticket { IsTicket store.old.steps ticket.now }
     requires unplaced { is_placed store.old.steps ticket.now.number ≡ false }

@@ -23,7 +23,7 @@ use Rattle.module_eval.proofs.Charged.{ok_all, on_ok, owed_more}
 use Rattle.module_eval.proofs.Spent.{first_spent, first_uses, owes}
 use Rattle.module_eval.proofs.Spent.{used_again, used_counting, uses_from}
 use Rattle.module_eval.proofs.Times.{left_more}
-use Rattle.module_eval.specs.inside.Times.{times, times_at, times_left}
+use Rattle.module_eval.specs.inside.Times.{occurs, occurs_at, occurs_left}
 use Rattle.module_eval.proofs.Further.{back_from, back_object, back_on, count_on, max_low}
 use Rattle.module_eval.proofs.Further.{ready_again}
 use Rattle.module_eval.proofs.Joined.{means_any}
@@ -73,14 +73,14 @@ paths::visit_path-returns-in-Object-clause-back g t c =
     let is = sym c.get-2.ensures ∙ c.in-Object.is in
     let found = source_at ns c.args.path.now c.in-Some.found.now _ c.in-Some.ensures is in
     let object = c.visit_object.ensures in
-    let spent = c.requires.ready.spent in
+    let away = c.requires.ready.away in
     let planned = c.has_uses.ensures.planned in
     back_object ns c.args.counted c.args.walk.now c.visit_object.new.counts c.args.path.now
     c.in-Some.found.now _ c.visit_object.result c.requires.ready (sym c.in-Some.ensures) found
     object.found object.alone object.stay
     (on_ok c.visit_object.result _ _
-    (λ read. read ns c.args.walk.now.plan c.args.walk.now.memo.kept.entries planned spent)
-    object.spent)
+    (λ read. read ns c.args.walk.now.plan c.args.walk.now.memo.kept.entries planned away)
+    object.away)
 
 pub paths::visit_path-returns-in-Object-clause-uses :
     goal.paths::visit_path-returns-in-Object-clause-uses
@@ -89,7 +89,7 @@ paths::visit_path-returns-in-Object-clause-uses g t c counted =
     ok_all c.visit_object.result _
     (used_again ns c.args.place.now.counting c.args.path.now c.args.walk.now.counts.read.entries
     c.visit_object.new.counts.read.entries c.args.walk.now.memo.kept.entries
-    (c.visit_object.ensures.times ns))
+    (c.visit_object.ensures.occurs ns))
 
 pub paths::visit_path-returns-in-Object-clause-cost :
     goal.paths::visit_path-returns-in-Object-clause-cost
@@ -246,17 +246,17 @@ blueprints::visit_first-returns-clause-back g t c =
       known = λ counted. rw keep.apart
           (subst (λ ps. AreKnown ns ps reads c.visit_nested.new.walk.memo.apart
           c.keep.new.self.kept.entries) (sym popped) closed);
-      spent = first_spent ns c.args.place.now.counting p x
+      away = first_spent ns c.args.place.now.counting p x
           c.args.walk.now.counts.read.entries c.open.new.counts.read.entries reads
           c.args.walk.now.memo.kept.entries c.visit_nested.new.walk.memo.kept.entries
           c.keep.new.self.kept.entries
           (record {
-            named = c.requires.ready.spent.named;
+            named = c.requires.ready.away.named;
             fresh = c.in_ok-open.ensures.fresh ns x c.args.walk.now.memo.apart
                 c.args.walk.now.memo.kept.entries c.requires.ready.known
                 c.requires.there.opens c.requires.free.0 c.requires.fresh;
             inside = c.in_ok-part.ensures.uses;
-            more = keep.spent;
+            more = keep.away;
             idle = λ e. keep.unspent (c.in_ok-only.ensures.idle e);
             owed = owes ns c.args.place.now.counting p c.args.walk.now.counts.read.entries
                 c.args.walk.now.memo.kept.entries
@@ -264,7 +264,7 @@ blueprints::visit_first-returns-clause-back g t c =
           })
           c.is_only_use.new.self c.in_ok-only.only keep.unspent c.in_ok-only.ensures.few
           (c.in_ok-only.ensures.planned c.visit_nested.new.walk.memo.kept.entries
-          c.in_ok-part.ensures.back.spent.planned);
+          c.in_ok-part.ensures.back.away.planned);
     }
 
 pub blueprints::visit_first-returns-clause-uses : goal.blueprints::visit_first-returns-clause-uses
@@ -279,12 +279,12 @@ blueprints::visit_first-returns-clause-uses g t c counted =
     c.args.walk.now.memo.kept.entries c.visit_nested.new.walk.memo.kept.entries
     c.keep.new.self.kept.entries
     (record {
-      named = c.requires.ready.spent.named;
+      named = c.requires.ready.away.named;
       fresh = c.in_ok-open.ensures.fresh ns x c.args.walk.now.memo.apart
           c.args.walk.now.memo.kept.entries c.requires.ready.known
           c.requires.there.opens c.requires.free.0 c.requires.fresh;
       inside = c.in_ok-part.ensures.uses;
-      more = keep.spent;
+      more = keep.away;
       idle = λ e. keep.unspent (c.in_ok-only.ensures.idle e);
       owed = owes ns c.args.place.now.counting p reads c.args.walk.now.memo.kept.entries
           (c.requires.owed.due counted);
@@ -414,7 +414,7 @@ blueprints::visit_again-returns-then-place-clause-back g t c =
           (sym popped)
           (known_popped ns above c.visit_nested.new.walk.above reads p more memo.apart
           memo.kept.entries (nested.stays p c.requires.built) (nested.known refl));
-      spent = nested.spent;
+      away = nested.away;
     }
 
 pub blueprints::visit_again-returns-clause-walk : goal.blueprints::visit_again-returns-clause-walk
@@ -470,7 +470,7 @@ blueprints::visit_again-returns-clause-back g t c =
           (sym popped)
           (known_popped ns above c.visit_nested.new.walk.above reads p more memo.apart
           memo.kept.entries (nested.stays p c.requires.built) (nested.known refl));
-      spent = nested.spent;
+      away = nested.away;
     }
 
 pub blueprints::visit_again-returns-then-has_room-clause-uses :
@@ -480,7 +480,7 @@ blueprints::visit_again-returns-then-has_room-clause-uses g t c counted =
     (used_again c.args.place.now.snap.now.entries c.args.place.now.counting
     c.args.blueprint.now.path.now c.args.walk.now.counts.read.entries
     c.enter_again.new.counts.read.entries c.args.walk.now.memo.kept.entries
-    (c.in_ok-enter_again.ensures.times c.args.place.now.snap.now.entries))
+    (c.in_ok-enter_again.ensures.occurs c.args.place.now.snap.now.entries))
 
 pub blueprints::visit_again-returns-then-place-clause-uses :
     goal.blueprints::visit_again-returns-then-place-clause-uses
@@ -490,7 +490,7 @@ blueprints::visit_again-returns-then-place-clause-uses g t c counted =
     c.args.walk.now.counts.read.entries c.enter_again.new.counts.read.entries
     c.visit_nested.new.walk.counts.read.entries c.args.walk.now.memo.kept.entries
     c.visit_nested.new.walk.memo.kept.entries
-    (c.in_ok-enter_again.ensures.times c.args.place.now.snap.now.entries)
+    (c.in_ok-enter_again.ensures.occurs c.args.place.now.snap.now.entries)
     c.in_ok-visit_nested.ensures.uses
 
 pub blueprints::visit_again-returns-clause-uses : goal.blueprints::visit_again-returns-clause-uses
@@ -500,7 +500,7 @@ blueprints::visit_again-returns-clause-uses g t c counted =
     c.args.walk.now.counts.read.entries c.enter_again.new.counts.read.entries
     c.visit_nested.new.walk.counts.read.entries c.args.walk.now.memo.kept.entries
     c.visit_nested.new.walk.memo.kept.entries
-    (c.in_ok-enter_again.ensures.times c.args.place.now.snap.now.entries)
+    (c.in_ok-enter_again.ensures.occurs c.args.place.now.snap.now.entries)
     c.in_ok-visit_nested.ensures.uses
 
 pub blueprints::visit_again-visit_nested-requires :
@@ -534,9 +534,9 @@ blueprints::visit_again-visit_nested-requires g t c κs within =
           c.requires.built
           (entered.known ns above c.args.walk.now.memo.apart all c.requires.built
           c.requires.ready.known);
-      spent = entered.spent ns c.args.walk.now.plan all c.requires.planned c.requires.ready.spent;
+      away = entered.away ns c.args.walk.now.plan all c.requires.planned c.requires.ready.away;
     } in
-    let uses : CanUse ns true (λ q. times q x) walk =
+    let uses : CanUse ns true (λ q. occurs q x) walk =
     entered.uses ns x all c.requires.there.opens in
     (omega (arith, long, more, free), (search, (ready, uses)))
 
@@ -597,8 +597,8 @@ exprs::visit_expr-pending-preserved g t c =
           inv.counts step.counts;
       back = back_on ns true c.args.walk.now c.pending.walk c.resume.new.walk inv.back step.back;
       uses =
-          let left : (q : Name) → times_left c.pending.pending q
-          ≡ times_left c.pop.new.self q + times_at q c.in-Some.node =
+          let left : (q : Name) → occurs_left c.pending.pending q
+          ≡ occurs_left c.pop.new.self q + occurs_at q c.in-Some.node =
           λ q. left_more c.pending.pending c.pop.new.self c.in-Some.node q c.in-Some.ensures in
           record {
             each = λ q.
@@ -627,7 +627,7 @@ exprs::visit_expr-returns-clause-uses g t c =
     record {
       each = λ q.
           let one = inv.uses.each q in
-          let none = ap (λ ps. times_left ps q) c.in_default.ensures.0 in
+          let none = ap (λ ps. occurs_left ps q) c.in_default.ensures.0 in
           omega (arith, one, none);
       idle = inv.uses.idle;
       grown = inv.uses.grown;
@@ -707,11 +707,11 @@ exprs::descend-nodes-preserved-in-Under g t c =
         low = inv.ready.low;
         kept = inv.ready.kept;
         known = rw c.in_ok-node-in-Under.ensures.read inv.ready.known;
-        spent = rw c.in_ok-node-in-Under.ensures.read inv.ready.spent;
+        away = rw c.in_ok-node-in-Under.ensures.read inv.ready.away;
       };
       plan = inv.plan;
       uses = λ p.
-          let apart = ap (times p) c.in-Under.ensures.0 in
+          let apart = ap (occurs p) c.in-Under.ensures.0 in
           let more =
           left_more c.push.new.self c.nodes.pending node p c.in_ok-push-in-Under.ensures.ok in
           let before = inv.uses p in
@@ -784,7 +784,7 @@ exprs::descend-nodes-preserved g t c =
         low = inv.ready.low;
         kept = inv.ready.kept;
         known = rw c.in_ok-node-in-Join.ensures.read inv.ready.known;
-        spent = rw c.in_ok-node-in-Join.ensures.read inv.ready.spent;
+        away = rw c.in_ok-node-in-Join.ensures.read inv.ready.away;
       };
       plan = inv.plan;
       uses = λ p.
@@ -817,7 +817,7 @@ exprs::descend-returns-in-Path-clause-uses g t c =
     c.nodes.walk.memo.kept.entries c.visit_path.new.walk.memo.kept.entries inv.read
     (ap (λ m. m.kept.entries) inv.memo)
     (λ q.
-    let here = ap (times q) c.in-Path.ensures in
+    let here = ap (occurs q) c.in-Path.ensures in
     let same = inv.uses q in
     omega (arith, here, same)))
     (c.visit_path.ensures.uses refl)
@@ -909,7 +909,7 @@ exprs::visit_expr-pending-init g t c =
       uses = record {
         each = λ q.
             let one = down.uses.each q in
-            let none = ap (λ ps. times_left ps q) c.new-pending.ensures in
+            let none = ap (λ ps. occurs_left ps q) c.new-pending.ensures in
             omega (arith, one, none);
         idle = down.uses.idle;
         grown = down.uses.grown;

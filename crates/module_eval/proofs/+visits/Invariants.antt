@@ -10,7 +10,7 @@ use Rattle.module_eval.specs.inside.Counted.{visit_of}
 use Rattle.module_eval.specs.inside.Meant.{Means}
 use Rattle.module_eval.specs.inside.Pendings.{Comes, EndsIn}
 use Rattle.module_eval.specs.inside.Walked.{tree_in}
-use Rattle.module_eval.specs.inside.Times.{times, times_left}
+use Rattle.module_eval.specs.inside.Times.{occurs, occurs_left}
 use Rattle.module_eval.specs.inside.Walks.{Charges, ComesBack, CountOn, MayGoOn, Uses, space_of}
 use Rattle.module_eval.proofs.+visits.Given as goal
 
@@ -58,8 +58,8 @@ invariant-exprs::visit_expr-pending g l =
       ready : MayGoOn (space_of l.place) l.walk;
       counts : CountOn l.fn.walk.counts l.walk.counts;
       back : ComesBack (space_of l.place) true l.fn.walk l.walk;
-      uses : Uses (space_of l.place) l.place.counting (λ p. times p (tree_of l.expr))
-          (times_left l.pending)
+      uses : Uses (space_of l.place) l.place.counting (λ p. occurs p (tree_of l.expr))
+          (occurs_left l.pending)
           l.fn.walk l.walk;
       cost : Charges (space_of l.place) l.place.counting (operators (tree_of l.expr))
           (owed l.pending)
@@ -88,8 +88,8 @@ invariant-exprs::descend-nodes g l =
       read : l.walk.counts.read.entries ≡ l.fn.walk.counts.read.entries;
       plan : l.walk.plan ≡ l.fn.walk.plan;
       steps : l.steps ≡ l.fn.steps;
-      uses : (p : Name) → times p (tree_of l.expr) + times_left l.pending p
-          ≡ times p (tree_of l.fn.expr) + times_left l.fn.pending p;
+      uses : (p : Name) → occurs p (tree_of l.expr) + occurs_left l.pending p
+          ≡ occurs p (tree_of l.fn.expr) + occurs_left l.fn.pending p;
       cost : operators (tree_of l.expr) + owed l.pending
           ≡ operators (tree_of l.fn.expr) + owed l.fn.pending;
       least : l.fn.walk.counts.nodes ≤ l.walk.counts.nodes;

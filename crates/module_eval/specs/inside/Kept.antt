@@ -15,7 +15,7 @@ use Rattle.module_table.specs.Stands.{StandsFor}
 use Rattle.module_table.specs.TableParts.{TableParts}
 use Rattle.module_eval.specs.Costs.{is_built}
 use Rattle.module_eval.specs.inside.Reaches.{IsReach}
-use Rattle.module_eval.specs.inside.Times.{moved, spent}
+use Rattle.module_eval.specs.inside.Times.{moved, away}
 use Rattle.module_eval.specs.declared.memo.Found.{Found}
 use Rattle.module_eval.specs.declared.memo.Found.TheVariants as found
 use Rattle.module_eval.specs.declared.memo.Kept.{Kept}
@@ -53,6 +53,6 @@ pub record AreKept (ns : Space) (all : List (Name × Kept)) : Type 0 where
 abbrev pub Finds : Found → List (Name × Kept) → Name → Type 0
 Finds (found.Kept kept) all path =
     (is_built all path ≡ true) × ((ns : Space) → AreKept ns all → IsKept ns path kept)
-    × (spent all path ≡ 0 → moved kept.built ≡ 0)
+    × (away all path ≡ 0 → moved kept.built ≡ 0)
 Finds found.Nothing all path = is_built all path ≡ false
 Finds found.NoMemory all path = Unit {0}

@@ -62,7 +62,7 @@ pub record MayGoOn (ns : Space) (walk : Walk) : Type 0 where
   pub low : walk.memo.deepest ≤ max_blueprints
   pub kept : AreKept ns walk.memo.kept.entries
   pub known : AreOpenOrKept ns walk
-  pub spent : HasSpent ns walk
+  pub away : HasSpent ns walk
 
 -- the blueprint is what stands at its path
 pub record IsThere (ns : Space) (blueprint : BlueprintAt) : Type 0 where
@@ -98,7 +98,7 @@ pub record ComesBack (ns : Space) (counted : Bool) (before after : Walk) : Type 
   pub stays : StayBuilt before.memo.kept.entries after.memo.kept.entries
   pub deepens : Deepens before.memo.deepest after.memo.deepest
   pub known : counted ≡ true → AreOpenOrKept ns after
-  pub spent : HasSpent ns after
+  pub away : HasSpent ns after
 
 -- the steps since are no more than the operators that were owed, less those that still are, and the
 -- operators of the blueprints that were read since

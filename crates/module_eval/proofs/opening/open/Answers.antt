@@ -1,5 +1,5 @@
 use Rattle.std.proofs.Common.{ap, arith}
-use Rattle.module_eval.specs.inside.Times.{times_in}
+use Rattle.module_eval.specs.inside.Times.{occurs_in}
 use Rattle.module_eval.proofs.Known.{charged, known_opened, not_read}
 use Rattle.module_eval.proofs.opening.open.Goals as goal
 
@@ -22,5 +22,5 @@ returns-clause-fresh c ns x apart all known there out unbuilt q =
     not_read ns c.args.above.now c.args.counts.now.read.entries apart all c.args.path.now x known
     there out unbuilt in
     let more = c.in_ok-node.ensures.first ns q unread in
-    let own = ap (times_in q) there in
+    let own = ap (occurs_in q) there in
     omega (arith, more, own)

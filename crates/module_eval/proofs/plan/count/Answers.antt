@@ -1,6 +1,6 @@
 use Rattle.std.proofs.Common.{◌∙◌, ap, sym, subst, arith}
 use Rattle.module_eval.specs.inside.Plans.{AreCounts, IsCounted, StayCounted}
-use Rattle.module_eval.specs.inside.Times.{never, times_in}
+use Rattle.module_eval.specs.inside.Times.{never, occurs_in}
 use Rattle.module_eval.proofs.AtPaths.{source_at, source_none}
 use Rattle.module_eval.proofs.Planned.{adds_up, counted_here, counted_more, counted_new}
 use Rattle.module_eval.proofs.Planned.{counted_still, one_waiting}
@@ -13,8 +13,8 @@ returns-in-Some-clause-counts c =
     subst (λ es. AreCounts ns never es c.args.waiting.now)
     (sym (rw c.of-in-Some.ensures at c.in_ok-insert.ensures.entries))
     (counted_more ns c.args.counts.now.entries c.args.path.now c.in-Some.before.now
-    c.args.times c.saturating_add-sum.result c.args.waiting.now (sym is)
-    (adds_up c.in-Some.before.now c.args.times c.saturating_add-sum.result
+    c.args.occurs c.saturating_add-sum.result c.args.waiting.now (sym is)
+    (adds_up c.in-Some.before.now c.args.occurs c.saturating_add-sum.result
     c.saturating_add-sum.ensures) c.requires)
 
 pub returns-in-Some-clause-here : goal.returns-in-Some-clause-here
@@ -36,9 +36,9 @@ returns-in_default-get-clause-counts c =
     let none = source_none ns c.args.path.now c.in_default-get.ensures in
     subst (λ es. AreCounts ns never es c.args.waiting.now)
     (sym (rw c.of-2.ensures at c.in_ok-insert-2.ensures.entries))
-    (counted_new ns c.args.counts.now.entries c.args.path.now c.args.times c.args.waiting.now
+    (counted_new ns c.args.counts.now.entries c.args.path.now c.args.occurs c.args.waiting.now
     c.args.waiting.now (sym is)
-    (λ q. let own = ap (times_in q) none in omega (arith, own)) c.requires)
+    (λ q. let own = ap (occurs_in q) none in omega (arith, own)) c.requires)
 
 pub returns-in_default-get-clause-here : goal.returns-in_default-get-clause-here
 returns-in_default-get-clause-here c =
@@ -61,9 +61,9 @@ returns-in-Object-clause-counts c =
     (sym c.get-3.ensures ∙ c.in-Object.is) in
     subst (λ es. AreCounts ns never es c.args.waiting.now)
     (sym (rw c.of-2.ensures at c.in_ok-insert-2.ensures.entries))
-    (counted_new ns c.args.counts.now.entries c.args.path.now c.args.times c.args.waiting.now
+    (counted_new ns c.args.counts.now.entries c.args.path.now c.args.occurs c.args.waiting.now
     c.args.waiting.now (sym is)
-    (λ q. let own = ap (times_in q) there in omega (arith, own)) c.requires)
+    (λ q. let own = ap (occurs_in q) there in omega (arith, own)) c.requires)
 
 pub returns-in-Object-clause-here : goal.returns-in-Object-clause-here
 returns-in-Object-clause-here c =
@@ -88,10 +88,10 @@ returns-in_ok-push-in-Blueprint-clause-counts c =
     let pushed = rw (c.one.ensures, c.body.ensures.body) at c.in_ok-push-in-Blueprint.ensures.ok in
     subst (λ es. AreCounts ns never es c.push.new.self)
     (sym (rw c.of-2.ensures at c.in_ok-insert-2.ensures.entries))
-    (counted_new ns c.args.counts.now.entries c.args.path.now c.args.times c.args.waiting.now
+    (counted_new ns c.args.counts.now.entries c.args.path.now c.args.occurs c.args.waiting.now
     c.push.new.self (sym is)
     (λ q.
-    let own = ap (times_in q) there in
+    let own = ap (occurs_in q) there in
     let more = one_waiting c.args.waiting.now c.in-Blueprint.image.body q in
     rw pushed (omega (arith, own, more))) c.requires)
 

@@ -1,7 +1,7 @@
 use Rattle.std.proofs.Common.{◌≡◌, ◌+◌, ◌≤◌, true, sym, subst}
 use Rattle.module_eval.specs.Costs.{is_built}
 use Rattle.module_eval.specs.inside.Kept.{AreKept}
-use Rattle.module_eval.specs.inside.Times.{once, spent}
+use Rattle.module_eval.specs.inside.Times.{once, away}
 use Rattle.module_eval.proofs.Again.{inserted_spent, inserted_unspent, kept_more}
 use Rattle.module_eval.proofs.Built.{built_only, built_still}
 use Rattle.module_eval.proofs.memo.Memo.insert.Goals as goal
@@ -21,14 +21,14 @@ returns-clause-others c q out h =
     built_only c.args.self.now.kept.entries c.args.path.now c.args.kept q out
     (subst (λ es. is_built es q ≡ true) (rw c.of.ensures at c.in_ok-insert.ensures.entries) h)
 
-pub returns-clause-spent : goal.returns-clause-spent
-returns-clause-spent c q =
-    subst (λ es. spent es q ≤ spent c.args.self.now.kept.entries q + once q c.args.path.now)
+pub returns-clause-away : goal.returns-clause-away
+returns-clause-away c q =
+    subst (λ es. away es q ≤ away c.args.self.now.kept.entries q + once q c.args.path.now)
     (sym (rw c.of.ensures at c.in_ok-insert.ensures.entries))
     (inserted_spent c.args.self.now.kept.entries c.args.path.now c.args.kept q)
 
 pub returns-clause-unspent : goal.returns-clause-unspent
 returns-clause-unspent c none q =
-    subst (λ es. spent es q ≤ spent c.args.self.now.kept.entries q)
+    subst (λ es. away es q ≤ away c.args.self.now.kept.entries q)
     (sym (rw c.of.ensures at c.in_ok-insert.ensures.entries))
     (inserted_unspent c.args.self.now.kept.entries c.args.path.now c.args.kept none q)

@@ -2,7 +2,7 @@ use Rattle.std.proofs.Common.{ap, arith, length}
 use Rattle.omos_model.specs.Names.{Name}
 use Rattle.omos_model.specs.Visit.{Visit}
 use Rattle.std.proofs.Common.{List}
-use Rattle.module_eval.specs.inside.Times.{spent}
+use Rattle.module_eval.specs.inside.Times.{away}
 use Rattle.module_eval.specs.declared.memo.Kept.{Kept}
 use Rattle.module_eval.proofs.Known.{known_first}
 use Rattle.module_eval.proofs.walk.Walk.new.Goals as goal
@@ -18,10 +18,10 @@ returns-clause-ready c ns =
       kept = memo.kept ns;
       known = rw c.new.ensures
           (known_first ns _ _ _ (ap (λ (v : Visit). v.read) c.new-3.ensures.first) memo.none);
-      spent = record {
-        planned = λ p. ap (λ (es : List (Name × Kept)). spent es p) memo.none;
+      away = record {
+        planned = λ p. ap (λ (es : List (Name × Kept)). away es p) memo.none;
         named = λ p.
-            let gone = ap (λ (es : List (Name × Kept)). spent es p) memo.none in
+            let gone = ap (λ (es : List (Name × Kept)). away es p) memo.none in
             omega (arith, gone);
       };
     }
