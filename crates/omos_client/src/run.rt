@@ -6,6 +6,8 @@ ghost use Rattle.omos_outside.specs.Faults.{Rose};
 ghost use Rattle.omos_client.specs.Errands.{Asked, asked_by, asked_of};
 ghost use Rattle.omos_client.specs.Runs.{outside, FollowsSending, RanAsked, RunsTo};
 ghost use Rattle.omos_client.specs.Ends.{client_status};
+ghost use Rattle.omos_client.specs.Telling.{TellsReply};
+ghost use Rattle.omos_wire.specs.Read.{answer_in};
 
 use crate::ending::Ending;
 use crate::errand::{Errand, errand_of};
@@ -14,7 +16,28 @@ use crate::sending::{Unsent, send};
 use crate::telling::tell;
 use omos_files::FileBox;
 use omos_outside::{Sink, Source};
+use omos_wire::ReplyParts;
 use std::alloc::Global;
+
+/// Tells a reply, and lets go of it.
+fn tell_and_drop<F: FileBox, O: Sink>(
+    alloc: Global,
+    reply: ReplyParts,
+    files: &mut F,
+    file: &str,
+    out: &mut O,
+) -> Ending
+    ensures told { TellsReply result (answer_in reply) file.now
+        (F.files files.old) (F.files files.new) (O.held out.old) (O.held out.new) }
+    ensures later { (F.faults files.old ≤ F.faults files.new)
+        × (O.faults out.old ≤ O.faults out.new) }
+    ensures file_failed { result ≡ Ending.FileFailed
+        → Rose (F.faults files.old) (F.faults files.new) }
+    ensures output_failed { result ≡ Ending.OutputFailed
+        → Rose (O.faults out.old) (O.faults out.new) }
+{
+    tell(alloc, &reply, files, file, out)
+}
 
 /// Reads the reply to a request that was sent, and tells it.
 fn finish<S: Source, F: FileBox, O: Sink>(
@@ -37,7 +60,7 @@ fn finish<S: Source, F: FileBox, O: Sink>(
         → Rose (O.faults out.old) (O.faults out.new) }
 {
     match hear(alloc, from, errand.command) {
-        Ok(reply) => tell(alloc, &reply, files, errand.file, out),
+        Ok(reply) => tell_and_drop(alloc, reply, files, errand.file, out),
         Err(Unheard::SourceFailed) => Ending::SourceFailed,
         Err(Unheard::Ended) => Ending::Ended,
         Err(Unheard::NotReply) => Ending::NotReply,
