@@ -185,6 +185,7 @@ sweep: links
 bench: build links stores turns versions shares wires
 	@bench/once.sh $(OMOSD)
 	@bench/objects.sh $(OMOSD)
+	@bench/memory.sh $(OMOSD)
 	@bench/operators.sh $(LINK_CASES)
 	@bench/evaluate.sh $(LINK_CASES)
 	@bench/sharing.sh $(LINK_CASES)
