@@ -1,5 +1,6 @@
 //! The base of the linker server: want of memory, lists of bytes and of values, numbers in bytes,
-//! shared values, the names of symbols and of entries, and the limits of a store.
+//! shared values, runs of shared bytes, the names of symbols and of entries, and the limits of a
+//! store.
 //!
 //! Nothing here knows of objects or the outside.
 #![tactic(auto)]

@@ -3,7 +3,8 @@
 //! A name has 1 to 1,024 bytes, each 0x21 to 0x7E or 0x80 to 0xFF and none of `(`, `)`, `"` and
 //! `;`. Nothing here knows what a name stands for.
 
-ghost use Rattle.std.specs.Prelude.{◌≡◌, ◌↔◌, ◌∷◌, [], ℕ, IsTrue, IfOk, MatchOption, All, refl, nat_eq};
+ghost use Rattle.std.specs.Prelude.{◌≡◌, ◌↔◌, ◌∷◌, [], ℕ, IsTrue, IfOk, MatchOption, All};
+ghost use Rattle.std.specs.Prelude.{refl, nat_eq};
 ghost use Rattle.std.proofs.Common.{rules};
 ghost use Rattle.std.specs.Cmp.{partial_order_from_own_ties};
 ghost use Rattle.std.specs.Cmp.Lexicographic.{pointwise, slice_cmp};

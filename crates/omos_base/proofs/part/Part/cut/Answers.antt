@@ -12,7 +12,10 @@ within c =
     omega (arith, seen, all, asked)
 
 pub overflow_add-result : goal.overflow_add-result
-overflow_add-result c = let fits = within c in let least = c.self.invariant.1 in omega (arith, fits, least)
+overflow_add-result c =
+    let fits = within c in
+    let least = c.self.invariant.1 in
+    omega (arith, fits, least)
 
 pub returns : goal.returns
 returns c =
