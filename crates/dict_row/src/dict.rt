@@ -1,11 +1,12 @@
 //! The list.
 
-ghost use Rattle.std.specs.Prelude.{◌≡◌, ◌<◌, Some, length, map, OnOk};
-ghost use Rattle.std.specs.List.{slice_get};
+ghost use Rattle.std.specs.Prelude.{◌≡◌, ◌<◌, ◌^◌, Some, length, map, IfOk, OnOk};
+ghost use Rattle.std.specs.List.{slice_get, range_with_len};
 ghost use Rattle.dict_row.specs.Keys.{AreKeys, decoded};
 
 use crate::rule::Rule;
 use omos_base::{NoMemory, Row, Shared};
+use std::alloc::Global;
 use std::marker::Model;
 
 /// A list that contracts see as its values, place by place.
@@ -36,6 +37,28 @@ impl<T> Model for DictRow<T> {
     ghost view = { λ row. decoded row.values.items row.keys };
 
     ghost invariant = { λ row. AreKeys row.keys (length row.values.items) };
+}
+
+/// The numbers from 0, as many.
+fn counted(alloc: Global, count: u32) -> Result<Row<u32>, NoMemory>
+    ensures { IfOk result (λ keys. keys ≡ range_with_len 0 count) }
+{
+    let mut keys = Row::from_vec(Vec::with_capacity(alloc, count as usize)?);
+    for key in 0..count {
+        keys.push(key)?;
+    }
+    Ok(keys)
+}
+
+impl<T: Drop> DictRow<T> {
+    /// The list of these values, each at one place. They are at most 2^32 - 1.
+    pub fn from_row(alloc: Global, values: Row<T>) -> Result<DictRow<T>, NoMemory>
+        requires { length values < 2 ^ 32 }
+        ensures { IfOk result (λ row. row ≡ values) }
+    {
+        let keys = counted(alloc, values.len() as u32)?;
+        Ok(DictRow::of(Shared::of(alloc, keys)?, values))
+    }
 }
 
 impl<T> DictRow<T> {

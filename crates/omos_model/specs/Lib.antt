@@ -1,5 +1,6 @@
 pub mod Names
 pub mod FragmentParts
+pub mod Fixups
 pub mod ImageParts
 pub mod Numbers
 pub mod ElfValues

@@ -7,6 +7,7 @@ ghost use Rattle.omos_model.specs.FragmentParts.{parts_of, is_fragment, IsFragme
 ghost use Rattle.omos_model.specs.FragmentParts.{are_distinct};
 ghost use Rattle.omos_model.specs.FragmentParts.{is_piece, is_spot, is_fixup, is_zeros, width};
 
+use crate::fixups::Fixups;
 use omos_base::{Fault, NoMemory, Part, Row, SymName};
 use std::alloc::Global;
 use std::collections::BTreeSet;
@@ -100,7 +101,7 @@ pub enum FragmentFault {
 pub struct Fragment {
     pieces: Row<Piece>,
     exports: Row<Export>,
-    fixups: Row<Fixup>,
+    fixups: Fixups,
 }
 
 impl Model for Fragment {
@@ -130,11 +131,12 @@ impl Fragment {
         if !are_distinct(alloc, exports.as_slice())? {
             return Err(Fault::Refused(FragmentFault::Shape));
         }
+        let fixups = Fixups::from_row(alloc, fixups)?;
         Ok(Fragment::from_parts(pieces, exports, fixups))
     }
 
     /// The fragment of three lists that are one. It takes no memory, and looks at none of them.
-    pub fn from_parts(pieces: Row<Piece>, exports: Row<Export>, fixups: Row<Fixup>) -> Fragment
+    pub fn from_parts(pieces: Row<Piece>, exports: Row<Export>, fixups: Fixups) -> Fragment
         requires { IsFragment (parts_of pieces exports fixups) }
         ensures { result ≡ parts_of pieces exports fixups }
     {
@@ -162,11 +164,11 @@ impl Fragment {
     }
 
     /// The references, in order.
-    pub fn fixups(&self) -> &[Fixup]
+    pub fn fixups(&self) -> &Fixups
         ensures fixups { result.now ≡ self.now.fixups }
         ensures formed { IsFragment self.now }
     {
-        self.fixups.as_slice()
+        &self.fixups
     }
 }
 

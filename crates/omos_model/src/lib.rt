@@ -6,6 +6,7 @@
 mod entry;
 pub mod examples;
 mod expr;
+mod fixups;
 mod fragment;
 pub mod laws;
 mod mark;
@@ -14,6 +15,7 @@ mod refusal;
 
 pub use entry::{Entry, Image, Stamped, Start};
 pub use expr::Expr;
+pub use fixups::{Field, Fixups};
 pub use fragment::{Aim, Export, Fixup, Fragment, FragmentFault, Group, Kind, Piece, Spot};
 pub use mark::{Landing, Mark, MarkRow, Target};
 pub use placement::{Place, Placement};
