@@ -1,6 +1,6 @@
 pub mod Names
 pub mod FragmentParts
-pub mod Fixups
+pub mod FixupParts
 pub mod ImageParts
 pub mod Numbers
 pub mod ElfValues

@@ -1,7 +1,8 @@
 //! What a reference is inside a module, and what it lands on in a whole program.
 
 use crate::entry::Entry;
-use omos_base::{Row, Shared, SymName};
+use dict_row::DictRow;
+use omos_base::{Shared, SymName};
 
 /// A spot of one leaf. Leaves are counted from 0, from left to right.
 #[derive(Clone, Copy, Debug, PartialEq, Eq)]
@@ -37,5 +38,5 @@ pub struct MarkRow {
     /// Its object.
     pub entry: Shared<Entry>,
     /// One mark for each fixup of the object, in order.
-    pub marks: Row<Mark>,
+    pub marks: DictRow<Mark>,
 }
