@@ -1,10 +1,12 @@
 -- What a list that is kept as values and keys has at each place.
-use Rattle.std.proofs.Common.{◌≡◌, ℕ, zero, suc, ◌<◌, List, [], ◌∷◌, All, Option, Some, None}
+use Rattle.std.proofs.Common.{◌≡◌, ℕ, zero, suc, ◌<◌, ◌≤◌, List, [], ◌∷◌, ◌++◌, All, Option}
+use Rattle.std.proofs.Common.{Some, None}
 use Rattle.std.proofs.Common.{get_or, length, map, ap, sym, ◌∙◌, refl, arith}
 use Rattle.std.specs.List.{cons_option, slice_get}
 use Rattle.std.specs.Option.{option_and_then, option_map}
 use Rattle.std.proofs.lemmas.List.{length-map}
-use Rattle.std.proofs.lemmas.List.Elements.{All-get_or, All-head, All-tail}
+use Rattle.std.proofs.lemmas.List.Elements.{All-append, All-cons, All-get_or, All-head}
+use Rattle.std.proofs.lemmas.List.Elements.{All-nil, All-tail, filter_map-append}
 use Rattle.std.proofs.lemmas.Option.{slice_get-get_or, slice_get-map, slice_get_read}
 use Rattle.dict_row.specs.Keys.{AreKeys, decoded}
 
@@ -29,7 +31,7 @@ length_decoded values (key ∷ keys) all =
 pub decoded_at : {T : Type 0} (values : List T) (keys : List ℕ) → AreKeys keys (length values)
     → (place : ℕ)
     → slice_get (decoded values keys) place
-        ≡ option_and_then (slice_get values) (slice_get keys place)
+    ≡ option_and_then (slice_get values) (slice_get keys place)
 unfolding decoded
 decoded_at values [] all place = refl
 decoded_at values (k ∷ keys) all zero =
@@ -86,3 +88,44 @@ value_at values keys list place x all is h read =
     (slice_get-get_or keys place 0 (place_below values keys list place all is h))
     ∙ slice_get_read values (length values) (get_or keys place 0) x refl
     (key_below values keys list place all is h) read
+
+-- ---- a list that grows
+
+-- what stands in a list stands there when it has grown
+pub still_there : {T : Type 0} (values more : List T) (key : ℕ) → key < length values
+    → slice_get (values ++ more) key ≡ slice_get values key
+still_there [] more key h = absurd (omega (arith, h))
+still_there (x ∷ values) more zero h = refl
+still_there (x ∷ values) more (suc key) h = still_there values more key (omega (arith, h))
+
+pub at_the_end : {T : Type 0} (values : List T) (x : T)
+    → slice_get (values ++ x ∷ []) (length values) ≡ Some x
+at_the_end [] x = refl
+at_the_end (y ∷ values) x = at_the_end values x
+
+-- further values change no place
+pub with_values : {T : Type 0} (values more : List T) (keys : List ℕ)
+    → AreKeys keys (length values) → decoded (values ++ more) keys ≡ decoded values keys
+unfolding decoded
+with_values values more [] all = refl
+with_values values more (key ∷ keys) all =
+    ap (λ o. cons_option o (decoded (values ++ more) keys))
+    (still_there values more key (All-head (λ k. k < length values) key keys all))
+    ∙ ap (cons_option (slice_get values key))
+    (with_values values more keys (All-tail (λ k. k < length values) key keys all))
+
+-- a further key is a further place
+pub with_key : {T : Type 0} (values : List T) (keys : List ℕ) (key : ℕ) (x : T)
+    → slice_get values key ≡ Some x
+    → decoded values (keys ++ key ∷ []) ≡ decoded values keys ++ x ∷ []
+unfolding decoded
+with_key values keys key x is =
+    filter_map-append (slice_get values) keys (key ∷ [])
+    ∙ ap (λ o. decoded values keys ++ cons_option o []) is
+
+pub keys_and : (keys : List ℕ) (key count more : ℕ) → AreKeys keys count → key < more
+    → count ≤ more → AreKeys (keys ++ key ∷ []) more
+keys_and keys key count more all h larger =
+    let wide : AreKeys keys more = λ k d within. omega (arith, all k d within, larger) in
+    All-append (λ k. k < more) keys (key ∷ []) wide
+    (All-cons (λ k. k < more) key [] h (All-nil (λ k. k < more)))

@@ -3,3 +3,5 @@ pub mod Counted
 pub mod Made
 pub mod Named
 pub mod Whole
+pub mod UsedMore
+pub mod Gathering

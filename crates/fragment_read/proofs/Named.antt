@@ -1,9 +1,11 @@
 -- The names of symbols, read from a list of all.
 use Rattle.std.proofs.Common.{◌≡◌, ℕ, ◌≤◌, ◌<◌, true, List, Option, Some, None, ap, ◌∙◌, cond}
-use Rattle.std.proofs.Common.{get_or, zero, suc, ◌+◌, [], ◌∷◌, ◌++◌, length, refl, sym, inl, inr, arith}
+use Rattle.std.proofs.Common.{get_or, zero, suc, ◌+◌, [], ◌∷◌, ◌++◌, length, refl, sym, inl, inr}
+use Rattle.std.proofs.Common.{arith}
 use Rattle.std.specs.List.{slice_get}
 use Rattle.std.proofs.lemmas.Option.{get_or_from_slice_get}
-use Rattle.std.proofs.lemmas.Bool.{cases_lt}  -- `cases_lt` is `lt_or_ge` in other libraries, and gives their `le_total`
+-- `cases_lt` is `lt_or_ge` in other libraries, and gives their `le_total`
+use Rattle.std.proofs.lemmas.Bool.{cases_lt}
 use Rattle.omos_model.specs.Names.{Name}
 use Rattle.omos_model.specs.ElfFields.{name_of, symbol_count}
 use Rattle.omos_model.specs.ElfFaults.{has_name}

@@ -12,5 +12,6 @@ mod pieces;
 mod read;
 mod spots;
 mod symbols;
+mod used;
 
 pub use read::{fragment, fragment_in};

@@ -1,9 +1,9 @@
 -- What fixups are by their fields and aims.
-use Rattle.std.proofs.Common.{◌≡◌, List, [], ◌∷◌, length, map, suc, ap, refl, arith}
+use Rattle.std.proofs.Common.{◌≡◌, List, [], ◌∷◌, ◌++◌, length, map, suc, ap, refl, arith}
 use Rattle.omos_model.specs.declared.fragment.Aim.{Aim}
 use Rattle.omos_model.specs.declared.fragment.Fixup.{Fixup}
 use Rattle.omos_model.specs.declared.fixups.Field.{Field}
-use Rattle.omos_model.specs.FixupParts.{field_of, fixups_of}
+use Rattle.omos_model.specs.FixupParts.{field_of, fixup_at, fixups_of}
 
 pub fields_in : (fields : List Field) (aims : List Aim) → length aims ≡ length fields
     → map field_of (fixups_of fields aims) ≡ fields
@@ -35,3 +35,14 @@ pub fixups_again : (fixups : List Fixup)
 unfolding fixups_of
 fixups_again [] = refl
 fixups_again (x ∷ fixups) = ap (λ xs. x ∷ xs) (fixups_again fixups)
+
+pub one_more : (fields : List Field) (aims : List Aim) (field : Field) (aim : Aim)
+    → length aims ≡ length fields
+    → fixups_of (fields ++ field ∷ []) (aims ++ aim ∷ [])
+    ≡ fixups_of fields aims ++ fixup_at (field, aim) ∷ []
+unfolding fixups_of
+one_more [] [] field aim is = refl
+one_more [] (a ∷ aims) field aim is = absurd (omega (arith, is))
+one_more (x ∷ fields) [] field aim is = absurd (omega (arith, is))
+one_more (x ∷ fields) (a ∷ aims) field aim is =
+    ap (λ xs. fixup_at (x, a) ∷ xs) (one_more fields aims field aim (omega (arith, is)))

@@ -51,11 +51,7 @@ fn field_of(fixup: &Fixup) -> Field
 }
 
 /// Appends the fields and the aims of these.
-fn part(
-    fixups: Vec<Fixup>,
-    fields: &mut Row<Field>,
-    aims: &mut Row<Aim>,
-) -> Result<(), NoMemory>
+fn part(fixups: Vec<Fixup>, fields: &mut Row<Field>, aims: &mut Row<Aim>) -> Result<(), NoMemory>
     ensures fields { OnOk result (fields.new ≡ fields.old ++ map field_of fixups.items) }
     ensures aims { OnOk result (aims.new ≡ aims.old ++ map (λ x. x.aim) fixups.items) }
 {

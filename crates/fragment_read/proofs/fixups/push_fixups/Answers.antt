@@ -1,5 +1,5 @@
 use Rattle.std.proofs.Common.{◌≡◌, ℕ, ◌+◌, ◌/◌, ◌<◌, ◌∷◌, ◌++◌, [], List, Option, Some, true}
-use Rattle.std.proofs.Common.{sym, ap, ◌∙◌, subst, append_assoc, arith, get_or}
+use Rattle.std.proofs.Common.{◌^◌, refl, sym, ap, ◌∙◌, subst, append_assoc, arith, get_or}
 use Rattle.std.specs.List.{cons_option}
 use Rattle.std.proofs.lemmas.Bool.{and_parts}
 use Rattle.std.proofs.lemmas.List.{append-nil}
@@ -7,17 +7,18 @@ use Rattle.elf_words.specs.declared.rela.Rela.{Rela}
 use Rattle.elf_words.specs.declared.shdr.Shdr.{Shdr}
 use Rattle.omos_model.specs.ElfFields.{r_info, r_offset, sh_info}
 use Rattle.omos_model.specs.ElfFaults.{entry_count, is_aim_of}
-use Rattle.omos_model.specs.FragmentOf.{fixup_of, section_piece}
+use Rattle.omos_model.specs.FragmentOf.{aim_of, fixup_of, section_piece}
 use Rattle.omos_model.specs.declared.fragment.Fixup.{Fixup}
 use Rattle.fragment_read.proofs.Counted.{made, made_more}
+use Rattle.fragment_read.specs.inside.Gathered.{gathered}
 use Rattle.fragment_read.specs.inside.Numbered.{fixup_with}
 use Rattle.fragment_read.proofs.Made.{fixup_is, no_fixup, read_is, type_is}
 use Rattle.fragment_read.proofs.Right.{kept_right, right_entry}
 use Rattle.fragment_read.proofs.fixups.push_fixups.Goals as goal
-use Rattle.fragment_read.proofs.fixups.push_fixups.Goals.{in-Some+in_ok-aim+in_ok-push, in_default}
+use Rattle.fragment_read.proofs.fixups.push_fixups.Goals.{in-Some+in_ok-push_fixup, in_default}
 
-pub aim_of-requires-clause-there : goal.aim_of-requires-clause-there
-aim_of-requires-clause-there c =
+pub push_fixup-requires-clause-there : goal.push_fixup-requires-clause-there
+push_fixup-requires-clause-there c =
     let file = c.args.tables.now in
     let i = c.args.i in
     let j = c.loop-j.j in
@@ -31,8 +32,8 @@ aim_of-requires-clause-there c =
     let info : e.r_info ≡ r_info file i j = ap (λ (x : Rela). x.r_info) read in
     subst (λ (n : ℕ). is_aim_of file (n / 4294967296) ≡ true) (sym info) entry.aim
 
-pub fixup_with-requires : goal.fixup_with-requires
-fixup_with-requires c =
+pub push_fixup-requires-clause-near : goal.push_fixup-requires-clause-near
+push_fixup-requires-clause-near c =
     let file = c.args.tables.now in
     let i = c.args.i in
     let j = c.loop-j.j in
@@ -63,25 +64,31 @@ loop-j-preserved c =
     let target : piece ≡ section_piece file (sh_info file i) =
     ap (λ (n : ℕ). get_or c.args.numbers.now n 0) info
     ∙ r.numbered.each (sh_info file i) (kept_right file (sh_info file i) r.right kept).there in
-    let before = c.args.fixups.now in
+    let before = gathered file c.args.fields.now c.args.used.now in
     let so_far = made f i j in
     let more : before ++ so_far ++ cons_option (f (i, j)) [] ≡ before ++ made f i (j + 1) =
     append_assoc before so_far (cons_option (f (i, j)) [])
     ∙ ap (λ (xs : List Fixup). before ++ xs) (sym (made_more f i j)) in
     elim c.match-kind_of.branch [
-      | in-Some+in_ok-aim+in_ok-push w ↦
-          let made_here = fixup_with piece e.r_offset e.r_addend w.in_ok-aim.aim w.in-Some.kind in
-          let is = fixup_is file i j e w.in-Some.kind piece w.in_ok-aim.aim read target
-          (sym w.in-Some.ensures) w.in_ok-aim.ensures in
-          w.fixups-is ∙ w.in_ok-push.ensures.added
-          ∙ ap (λ (x : Fixup). c.loop-j.fixups ++ x ∷ []) w.fixup_with.ensures
-          ∙ ap (λ (xs : List Fixup). xs ++ made_here ∷ []) c.loop-j.invariant
-          ∙ ap (λ (o : Option Fixup). before ++ so_far ++ cons_option o []) (sym is)
-          ∙ more
+      | in-Some+in_ok-push_fixup w ↦
+          let aim = aim_of file (e.r_info / 2 ^ 32) in
+          let here = fixup_with piece e.r_offset e.r_addend aim w.in-Some.kind in
+          let is = fixup_is file i j e w.in-Some.kind piece aim read target
+          (sym w.in-Some.ensures) refl in
+          record {
+            right = rw (w.fields-is, w.used-is) w.in_ok-push_fixup.ensures.right;
+            more = rw (w.fields-is, w.used-is) (w.in_ok-push_fixup.ensures.more
+                ∙ ap (λ (xs : List Fixup). xs ++ here ∷ []) c.loop-j.invariant.more
+                ∙ ap (λ (o : Option Fixup). before ++ so_far ++ cons_option o []) (sym is)
+                ∙ more);
+          }
       | in_default w ↦
           let is = no_fixup file i j e read (sym w.in_default.ensures) in
-          w.fixups-is ∙ c.loop-j.invariant
-          ∙ sym (append-nil (before ++ so_far))
-          ∙ ap (λ (o : Option Fixup). before ++ so_far ++ cons_option o []) (sym is)
-          ∙ more
+          record {
+            right = rw (w.fields-is, w.used-is) c.loop-j.invariant.right;
+            more = rw (w.fields-is, w.used-is) (c.loop-j.invariant.more
+                ∙ sym (append-nil (before ++ so_far))
+                ∙ ap (λ (o : Option Fixup). before ++ so_far ++ cons_option o []) (sym is)
+                ∙ more);
+          }
     ]

@@ -10,7 +10,8 @@ loop-k-preserved c =
     let added = c.in_ok-push-2.ensures.added in
     record {
       all =
-          let count = ap length added ∙ length-append c.loop-k.names (c.in_ok-name_if.field-0 ∷ []) in
+          let count = ap length added
+          ∙ length-append c.loop-k.names (c.in_ok-name_if.field-0 ∷ []) in
           omega (arith, count, c.loop-k.invariant.all);
       each = λ j low high.
           ap (λ (names : List (Option Name)). slice_get names j) added

@@ -5,8 +5,8 @@ use Rattle.dict_row.proofs.dict.DictRow.get.Goals as goal
 pub offset_bounds-as_slice-place : goal.offset_bounds-as_slice-place
 offset_bounds-as_slice-place g c =
     let within =
-        place_below c.self.inside.values.items c.self.inside.keys c.args.self.now c.args.place
-        c.self.invariant c.self.view_is c.requires in
+    place_below c.self.inside.values.items c.self.inside.keys c.args.self.now c.args.place
+    c.self.invariant c.self.view_is c.requires in
     let known = c.as_slice.type_inv in
     let lent = ap length (c.as_slice.ensures) in
     let got = ap length (c.get.ensures) in
@@ -28,4 +28,5 @@ pub returns : goal.returns
 returns g c =
     value_at c.self.inside.values.items c.self.inside.keys c.args.self.now c.args.place
     c.index-as_slice-key.result c.self.invariant c.self.view_is c.requires
-    (rw (← c.as_slice-2.ensures.value, ← c.get.ensures, ← c.as_slice.ensures) c.index-as_slice-key.is)
+    (rw (← c.as_slice-2.ensures.value, ← c.get.ensures, ← c.as_slice.ensures)
+    c.index-as_slice-key.is)
