@@ -2,7 +2,7 @@
 
 use anyhow::Result;
 use omos_base::SymName;
-use omos_model::{Aim, Export, Fixup, Group, Kind, Piece, Spot};
+use omos_model::{Aim, Export, Field, Group, Kind, Piece, Spot};
 use std::alloc::Global;
 
 fn group_name(group: Group) -> &'static str {
@@ -70,9 +70,9 @@ pub(crate) fn export_line(alloc: Global, export: &Export) -> Result<String> {
 }
 
 /// The line of a fixup.
-pub(crate) fn fixup_line(alloc: Global, fixup: &Fixup) -> Result<String> {
-    let (piece, offset, addend) = (fixup.piece, fixup.offset, fixup.addend);
-    let kind = kind_name(fixup.kind);
-    let aim = aim_text(alloc, &fixup.aim)?;
+pub(crate) fn fixup_line(alloc: Global, field: &Field, aim: &Aim) -> Result<String> {
+    let (piece, offset, addend) = (field.piece, field.offset, field.addend);
+    let kind = kind_name(field.kind);
+    let aim = aim_text(alloc, aim)?;
     Ok(format!(in alloc; "fixup {piece}+{offset} {kind} {addend} {aim}")?)
 }

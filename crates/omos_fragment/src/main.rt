@@ -26,8 +26,10 @@ fn print_fragment(rt: &HostRuntime, fragment: &Fragment) -> Result<()> {
     for export in fragment.exports() {
         rt.println(export_line(rt.alloc(), export)?.as_str())?;
     }
-    for fixup in fragment.fixups() {
-        rt.println(fixup_line(rt.alloc(), fixup)?.as_str())?;
+    let fixups = fragment.fixups();
+    for (place, field) in fixups.fields().iter().enumerate() {
+        let aim = fixups.aims().get(place);
+        rt.println(fixup_line(rt.alloc(), field, aim)?.as_str())?;
     }
     Ok(())
 }
