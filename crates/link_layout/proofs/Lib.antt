@@ -1,3 +1,4 @@
+pub mod ByPlace
 pub mod Groups
 pub mod Parts
 pub mod Planned

@@ -1,2 +1,3 @@
 pub mod ByGroup
+pub mod Fields
 pub mod References

@@ -88,9 +88,10 @@ fn place(alloc: Global, program: &Program, groups: &Groups) -> Result<Row<Row<u6
 /// - L10, the start's name isn't defined;
 /// - L11, a reference is bound to nothing and isn't weak; the first by leaf and number.
 ///
-/// It passes twice over the pieces and twice over the references, and looks each target of a GOT
-/// fixup up in a table, which the layout keeps. No object is copied. Want of memory may come where
-/// any of this grows.
+/// It passes twice over the pieces and once over the fields, and looks each target of a GOT fixup
+/// up in a table, which the layout keeps. What an object's references land on is looked at once a
+/// symbol; only where something isn't bound they are gone through one by one. No object is copied.
+/// Want of memory may come where any of this grows.
 pub fn lay_program(alloc: Global, seed: Seed, program: &Program) -> Result<Layout, Fault<Refusal>>
     requires few { IsFew program.now }
     ensures laid { Lays result program.now }

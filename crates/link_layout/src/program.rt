@@ -5,9 +5,10 @@ ghost use Rattle.link_model.specs.Module.{found};
 ghost use Rattle.link_model.specs.Plan.{entry_of};
 ghost use Rattle.link_layout.specs.Program.{IsProgramOf};
 
+use dict_row::DictRow;
 use link_model::Evaluated;
 use link_model::laws::modules_are_bounded;
-use omos_base::{Row, Shared};
+use omos_base::Shared;
 use omos_model::{Entry, Landing, Start, Target};
 
 /// A program that is to be laid out. It needs no module: whoever has objects, and knows what their
@@ -17,7 +18,7 @@ pub struct Program<'a> {
     /// Its objects, from left to right.
     pub leaves: &'a [Shared<Entry>],
     /// For each object, what each of its fixups lands on, in order.
-    pub landings: &'a [Row<Landing>],
+    pub landings: &'a [DictRow<Landing>],
     /// Where it starts.
     pub start: &'a Start,
     /// What the start's name is defined as, if it starts by a name that is defined.

@@ -1,39 +1,46 @@
 //! The slots of a module: one of 8 bytes for each distinct target of a GOT fixup.
 
-ghost use Rattle.std.specs.Prelude.{◌≡◌, ◌≤◌, [], fold, length, IfOk, OnOk};
-ghost use Rattle.std.specs.List.{zip};
+ghost use Rattle.std.specs.Prelude.{◌≡◌, ◌<◌, ◌≤◌, [], Some, fold, length, map, IfOk, OnOk};
+ghost use Rattle.std.specs.List.{slice_get, zip};
+ghost use Rattle.omos_model.specs.FixupParts.{field_of};
 ghost use Rattle.omos_model.specs.FragmentParts.{max_entries};
-ghost use Rattle.link_layout.specs.Slots.{fixups_in, slots_with, slots_with_leaf};
+ghost use Rattle.link_layout.specs.Slots.{fixups_in, slots_with_leaf};
+ghost use Rattle.link_layout.specs.inside.Fields.{slots_with_field};
 
 use crate::slot::{is_got, target_at};
+use dict_row::DictRow;
 use indexmap::IndexSet;
 use link_model::Slot;
-use omos_base::{NoMemory, Row, Shared};
-use omos_model::{Entry, Fixup, Landing};
+use omos_base::{NoMemory, Shared};
+use omos_model::{Entry, Field, Landing};
 use seeded_hash::Seed;
 use std::alloc::Global;
 
-/// The fixups of a leaf, in order. A leaf is an object; a blueprint would have none.
-pub fn fixups_in(leaf: &Shared<Entry>) -> &[Fixup]
-    ensures fixups { result.now ≡ fixups_in leaf.now }
+/// The fields of a leaf, in order. A leaf is an object; a blueprint would have none.
+pub fn fields_in(leaf: &Shared<Entry>) -> &[Field]
+    ensures fields { result.now ≡ map field_of (fixups_in leaf.now) }
     ensures few { length result.now ≤ max_entries }
 {
     match leaf.get() {
-        Entry::Object(fragment) => fragment.fixups(),
+        Entry::Object(fragment) => fragment.fixups().fields(),
         Entry::Blueprint(_) => &[],
     }
 }
 
-/// Adds the slot of a reference, where it needs one that isn't there.
+/// Adds the slot of the field at a place, where it needs one that isn't there. Other fields'
+/// landings aren't looked at.
 fn add_slot(
     slots: &mut IndexSet<Slot, Seed>,
-    fixup: &Fixup,
-    landing: &Landing,
+    field: &Field,
+    landings: &DictRow<Landing>,
+    place: usize,
 ) -> Result<(), NoMemory>
-    ensures { OnOk result (slots.new.keys ≡ slots_with slots.old.keys (fixup.now, landing.now)) }
+    requires { place < length landings.now }
+    ensures { OnOk result ((landing : Landing) → slice_get landings.now place ≡ Some landing
+        → slots.new.keys ≡ slots_with_field slots.old.keys (field.now, landing)) }
 {
-    if is_got(fixup.kind) {
-        slots.insert(Slot::of(target_at(landing)))?;
+    if is_got(field.kind) {
+        slots.insert(Slot::of(target_at(landings.get(place))))?;
     }
     Ok(())
 }
@@ -41,14 +48,14 @@ fn add_slot(
 /// Adds the slots of a leaf's references.
 fn add_slots(
     slots: &mut IndexSet<Slot, Seed>,
-    fixups: &[Fixup],
-    landings: &[Landing],
+    fields: &[Field],
+    landings: &DictRow<Landing>,
 ) -> Result<(), NoMemory>
     ensures { OnOk result
-        (slots.new.keys ≡ fold slots_with slots.old.keys (zip fixups.now landings.now)) }
+        (slots.new.keys ≡ fold slots_with_field slots.old.keys (zip fields.now landings.now)) }
 {
-    for (fixup, landing) in fixups.iter().zip(landings) {
-        add_slot(slots, fixup, landing)?;
+    for place in 0..fields.len().min(landings.len()) {
+        add_slot(slots, &fields[place], landings, place)?;
     }
     Ok(())
 }
@@ -57,24 +64,24 @@ fn add_slots(
 fn fill_slots(
     slots: &mut IndexSet<Slot, Seed>,
     leaves: &[Shared<Entry>],
-    landings: &[Row<Landing>],
+    landings: &[DictRow<Landing>],
 ) -> Result<(), NoMemory>
     ensures { OnOk result
         (slots.new.keys ≡ fold slots_with_leaf slots.old.keys (zip leaves.now landings.now)) }
 {
     for (leaf, row) in leaves.iter().zip(landings) {
-        add_slots(slots, fixups_in(leaf), row.as_slice())?;
+        add_slots(slots, fields_in(leaf), row)?;
     }
     Ok(())
 }
 
-/// The slots, in order of first use. It passes over the references once. The table hashes by the
+/// The slots, in order of first use. It passes over the fields once. The table hashes by the
 /// seed.
 pub fn slots_of(
     alloc: Global,
     seed: Seed,
     leaves: &[Shared<Entry>],
-    landings: &[Row<Landing>],
+    landings: &[DictRow<Landing>],
 ) -> Result<IndexSet<Slot, Seed>, NoMemory>
     ensures { IfOk result (λ slots.
         slots.keys ≡ fold slots_with_leaf [] (zip leaves.now landings.now)) }

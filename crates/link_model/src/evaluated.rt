@@ -4,6 +4,7 @@ ghost use Rattle.std.specs.Prelude.{◌≡◌, IfOk, IsSome, IsTrue, Some};
 ghost use Rattle.omos_model.specs.ImageParts.{is_range};
 ghost use Rattle.link_model.specs.Module.{IsModule, found, landing_at, module_of};
 
+use dict_row::DictRow;
 use omos_base::{NoMemory, PathName, Row, Shared, SymName};
 use omos_model::{Entry, Landing, Stamped, Start, Target};
 use seeded_hash::Seed;
@@ -24,7 +25,7 @@ pub struct Found {
 pub struct Evaluated {
     path: PathName,
     leaves: Row<Shared<Entry>>,
-    landings: Row<Row<Landing>>,
+    landings: Row<DictRow<Landing>>,
     names: Row<Found>,
     footprint: Shared<Row<Stamped>>,
     start: Start,
@@ -54,7 +55,7 @@ impl Evaluated {
     pub fn of(
         path: PathName,
         leaves: Row<Shared<Entry>>,
-        landings: Row<Row<Landing>>,
+        landings: Row<DictRow<Landing>>,
         names: Row<Found>,
         footprint: Shared<Row<Stamped>>,
         start: Start,
@@ -100,11 +101,11 @@ impl Evaluated {
         ensures landing { landing_at self.now leaf fixup ≡ Some result.now }
         ensures evaluated { IsModule self.now }
     {
-        &self.landings.as_slice()[leaf as usize].as_slice()[fixup as usize]
+        self.landings.as_slice()[leaf as usize].get(fixup as usize)
     }
 
     /// What the fixups land on: for each leaf, a landing for each of its fixups, in order.
-    pub fn landings(&self) -> &[Row<Landing>]
+    pub fn landings(&self) -> &[DictRow<Landing>]
         ensures landings { result.now ≡ self.now.landings }
         ensures evaluated { IsModule self.now }
     {

@@ -1,7 +1,9 @@
-use Rattle.std.proofs.Common.{fold, ◌∙◌}
+use Rattle.std.proofs.Common.{fold, ap, ◌∙◌}
 use Rattle.std.specs.List.{zip}
 use Rattle.std.proofs.lemmas.List.{length_push}
-use Rattle.link_layout.specs.Slots.{slots_with, slots_with_leaf}
+use Rattle.link_layout.specs.Slots.{fixups_in, slots_with_leaf}
+use Rattle.link_layout.specs.inside.Fields.{slots_with_field}
+use Rattle.link_layout.proofs.ByPlace.{slots-by-field}
 use Rattle.link_layout.proofs.Rest.{pairs-turn, pairs-end, fold-next, fold-done}
 use Rattle.link_layout.proofs.slots.fill_slots.Goals as goal
 
@@ -13,8 +15,9 @@ loop-leaf-preserved c =
     c.next.new.self
     (c.in-Some.leaf, c.in-Some.row) c.in-Some.is c.next.ensures.steps in
     let same = c.in_ok-add_slots.ensures
-    ∙ (λ i. fold slots_with c.loop-leaf.slots.keys
-    (zip (c.fixups_in.ensures.fixups i) (c.as_slice.ensures i))) in
+    ∙ ap (λ fields. fold slots_with_field c.loop-leaf.slots.keys (zip fields c.in-Some.row.now))
+    c.fields_in.ensures.fields
+    ∙ slots-by-field c.loop-leaf.slots.keys (fixups_in c.in-Some.leaf.now) c.in-Some.row.now in
     fold-next slots_with_leaf _ _ _ _ c.loop-leaf.slots.keys _ _ rest
     (length_push c.loop-leaf.yielded (c.in-Some.leaf, c.in-Some.row)) same c.loop-leaf.invariant
 
