@@ -1,5 +1,5 @@
 -- What a list that is kept as values and keys has at each place.
-use Rattle.std.proofs.Common.{◌≡◌, ℕ, zero, suc, ◌<◌, ◌≤◌, List, [], ◌∷◌, ◌++◌, All, Option}
+use Rattle.std.proofs.Common.{◌≡◌, ℕ, zero, suc, ◌<◌, ◌≤◌, List, [], ◌∷◌, ◌++◌, Option}
 use Rattle.std.proofs.Common.{Some, None}
 use Rattle.std.proofs.Common.{get_or, length, map, ap, sym, ◌∙◌, refl, arith}
 use Rattle.std.specs.List.{cons_option, slice_get}

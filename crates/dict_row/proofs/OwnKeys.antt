@@ -1,6 +1,6 @@
 -- Values at a place each: their keys are the numbers from 0.
-use Rattle.std.proofs.Common.{◌≡◌, ℕ, zero, suc, ◌+◌, ◌<◌, ◌≤◌, List, [], ◌∷◌, ◌++◌, All}
-use Rattle.std.proofs.Common.{length, ap, sym, ◌∙◌, refl, arith}
+use Rattle.std.proofs.Common.{◌≡◌, ℕ, zero, suc, ◌+◌, ◌<◌, ◌≤◌, List, [], ◌∷◌, ◌++◌}
+use Rattle.std.proofs.Common.{length, ap, ◌∙◌, refl, arith}
 use Rattle.std.specs.List.{cons_option, range_with_len, slice_get}
 use Rattle.std.proofs.lemmas.List.Elements.{All-nil, All-cons}
 use Rattle.dict_row.specs.Keys.{AreKeys, decoded}

@@ -1,7 +1,6 @@
 -- One fixup more.
 use Rattle.std.proofs.Common.{◌≡◌, ℕ, ◌∷◌, ◌++◌, [], true, List, length, map, ap, sym, ◌∙◌}
 use Rattle.std.proofs.Common.{arith}
-use Rattle.std.specs.List.{list_all}
 use Rattle.std.proofs.lemmas.List.{length-append, length-map, map-append}
 use Rattle.dict_row.specs.Keys.{decoded}
 use Rattle.dict_row.proofs.Decoded.{map_decoded}
@@ -10,10 +9,9 @@ use Rattle.omos_model.specs.FixupParts.{fixup_at, fixups_of}
 use Rattle.omos_model.specs.FragmentOf.{aim_of}
 use Rattle.omos_model.specs.declared.fixups.Field.{Field}
 use Rattle.omos_model.specs.declared.fragment.Aim.{Aim}
-use Rattle.omos_model.specs.declared.fragment.Fixup.{Fixup}
 use Rattle.omos_model.proofs.FixupLaws.{one_more}
 use Rattle.fragment_read.specs.declared.used.Used.{Used}
-use Rattle.fragment_read.specs.inside.Used.{AreUsed, HasNamed, symbols_of}
+use Rattle.fragment_read.specs.inside.Used.{HasNamed, symbols_of}
 use Rattle.fragment_read.specs.inside.Gathered.{AreGathered, gathered}
 
 pub still_gathered : (file : List ℕ) (fields after : List Field) (old new : Used) (field : Field)

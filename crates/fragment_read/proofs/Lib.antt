@@ -1,7 +1,6 @@
 pub mod Right
 pub mod Counted
 pub mod Made
-pub mod Named
 pub mod Whole
 pub mod UsedMore
 pub mod Gathering

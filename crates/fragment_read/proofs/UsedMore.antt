@@ -1,5 +1,5 @@
 -- What stays true of the symbols that relocations name when there is one more.
-use Rattle.std.proofs.Common.{◌≡◌, ℕ, zero, suc, ◌+◌, ◌^◌, ◌<◌, true, List, [], ◌∷◌, ◌++◌, Some}
+use Rattle.std.proofs.Common.{◌≡◌, ℕ, zero, suc, ◌+◌, ◌^◌, ◌<◌, List, [], ◌∷◌, ◌++◌, Some}
 use Rattle.std.proofs.Common.{length, replicate, set, get_or, ap, sym, ◌∙◌, refl, subst, arith}
 use Rattle.std.specs.List.{list_all, slice_get}
 use Rattle.std.proofs.lemmas.List.{length-append, length-replicate, length-set}
@@ -9,7 +9,7 @@ use Rattle.std.proofs.lemmas.Option.{get_or_from_slice_get, slice_get_read, slic
 use Rattle.dict_row.specs.Keys.{AreKeys, decoded}
 use Rattle.dict_row.proofs.Decoded.{at_the_end, keys_and, still_there, with_key, with_values}
 use Rattle.fragment_read.specs.declared.used.Used.{Used}
-use Rattle.fragment_read.specs.inside.Used.{AreUsed, HasNamed, IsPlaced, free, symbols_of}
+use Rattle.fragment_read.specs.inside.Used.{AreUsed, HasNamed, IsPlaced, free}
 
 -- ---- symbols with no place
 

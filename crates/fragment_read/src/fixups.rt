@@ -14,9 +14,9 @@ ghost use Rattle.omos_model.specs.FragmentOf.{aim_of, fixup_of};
 ghost use Rattle.omos_model.specs.Numbers.{numbers_from};
 ghost use Rattle.omos_model.specs.declared.fragment.Aim.{Aim};
 ghost use Rattle.fragment_read.specs.inside.Gathered.{AreGathered, gathered};
-ghost use Rattle.fragment_read.specs.inside.Numbered.{AreSymbolNames, ArePieceNumbers, fixup_with};
+ghost use Rattle.fragment_read.specs.inside.Numbered.{ArePieceNumbers, fixup_with};
 
-use crate::names::name_at;
+use crate::names::name;
 use crate::spots::spot_of;
 use crate::symbols::{binding, index, is_local};
 use crate::used::{self, Used};
@@ -24,7 +24,7 @@ use dict_row::DictRow;
 use elf_object::{Tables, kind_of};
 use elf_words::values::{SHN_UNDEF, STB_WEAK};
 use elf_words::{Record, Rela};
-use omos_base::{NoMemory, Row, Shared, SymName};
+use omos_base::{NoMemory, Part, Row, Shared};
 use omos_model::{Aim, Field, Fixups, Kind, Spot};
 use std::alloc::Global;
 
@@ -38,16 +38,11 @@ fn is_weak_reference(tables: &Tables<'_>, k: u32) -> bool
 }
 
 /// Symbol 0 is the number 0, a LOCAL one its spot, any other its name.
-fn aim_of(
-    tables: &Tables<'_>,
-    numbers: &[u32],
-    names: &[Option<SymName>],
-    k: u32,
-) -> Result<Aim, NoMemory>
+fn aim_of(file: &Part, tables: &Tables<'_>, numbers: &[u32], k: u32) -> Result<Aim, NoMemory>
     requires right { object_fault tables.now ≡ None }
     requires there { IsTrue (is_aim_of tables.now k) }
     requires numbered { ArePieceNumbers tables.now numbers.now }
-    requires named { AreSymbolNames tables.now names.now }
+    requires same { file.now ≡ tables.now }
     ensures { IfOk result (λ aim. aim ≡ aim_of tables.now k) }
 {
     if k == 0 {
@@ -57,7 +52,7 @@ fn aim_of(
         return Ok(Aim::At(spot_of(tables, numbers, k, 0)));
     }
     Ok(Aim::Name {
-        name: name_at(tables, names, k).copy()?,
+        name: name(file, tables, k)?,
         weak: is_weak_reference(tables, k),
     })
 }
@@ -171,20 +166,20 @@ fn push_all(
 /// What the symbols are as aims, in order.
 fn aims(
     alloc: Global,
+    file: &Part,
     tables: &Tables<'_>,
     numbers: &[u32],
-    names: &[Option<SymName>],
     symbols: &[u32],
 ) -> Result<Row<Aim>, NoMemory>
     requires right { object_fault tables.now ≡ None }
     requires there { list_all (is_aim_of tables.now) symbols.now ≡ true }
     requires numbered { ArePieceNumbers tables.now numbers.now }
-    requires named { AreSymbolNames tables.now names.now }
+    requires same { file.now ≡ tables.now }
     ensures { IfOk result (λ aims. aims ≡ map (aim_of tables.now) symbols.now) }
 {
     let mut aims = Row::from_vec(Vec::with_capacity(alloc, symbols.len())?);
     for k in symbols {
-        aims.push(aim_of(tables, numbers, names, *k)?)?;
+        aims.push(aim_of(file, tables, numbers, *k)?)?;
     }
     Ok(aims)
 }
@@ -192,19 +187,19 @@ fn aims(
 /// The fixups of an object file. What a symbol is as an aim is found once, at its first use.
 pub(crate) fn fixups(
     alloc: Global,
+    file: &Part,
     tables: &Tables<'_>,
     numbers: &[u32],
-    names: &[Option<SymName>],
 ) -> Result<Fixups, NoMemory>
     requires right { object_fault tables.now ≡ None }
     requires numbered { ArePieceNumbers tables.now numbers.now }
-    requires named { AreSymbolNames tables.now names.now }
+    requires same { file.now ≡ tables.now }
     ensures { IfOk result (λ xs. xs ≡ filter_map (fixup_of tables.now) (entries tables.now)) }
 {
     let count = count_of_entries(tables);
     let mut fields = Row::from_vec(Vec::with_capacity(alloc, count)?);
     let mut used = used::none(alloc, tables.symbols(), count)?;
     push_all(tables, numbers, &mut fields, &mut used)?;
-    let aims = aims(alloc, tables, numbers, names, used.symbols.as_slice())?;
+    let aims = aims(alloc, file, tables, numbers, used.symbols.as_slice())?;
     Ok(Fixups::of(fields, DictRow::of(Shared::of(alloc, used.keys)?, aims)))
 }

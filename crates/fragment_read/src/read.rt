@@ -7,7 +7,6 @@ ghost use Rattle.omos_model.specs.ElfFaults.{object_fault};
 
 use crate::exports::exports;
 use crate::fixups::fixups;
-use crate::names::names;
 use crate::numbers::{kept_count, piece_numbers};
 use crate::pieces::pieces;
 use elf_object::{Tables, read_tables};
@@ -21,17 +20,10 @@ fn parts_of_file(alloc: Global, file: &Part, tables: &Tables<'_>) -> Result<Frag
     ensures { IfOk result (λ f. f ≡ parts_of_file tables.now) }
 {
     let numbers = piece_numbers(alloc, tables)?;
-    let names = names(alloc, file, tables)?;
     let pieces = pieces(alloc, file, tables)?;
     let first_common = kept_count(tables);
-    let exports = exports(
-        alloc,
-        tables,
-        numbers.as_slice(),
-        names.as_slice(),
-        first_common,
-    )?;
-    let fixups = fixups(alloc, tables, numbers.as_slice(), names.as_slice())?;
+    let exports = exports(alloc, file, tables, numbers.as_slice(), first_common)?;
+    let fixups = fixups(alloc, file, tables, numbers.as_slice())?;
     laws::files_hold_fragments();
     Ok(Fragment::from_parts(pieces, exports, fixups))
 }

@@ -1,12 +1,8 @@
 -- Tables by number that are made from an object file.
-use Rattle.std.specs.Prelude.{◌≡◌, ℕ, ℤ, ◌<◌, ◌≤◌, ◌==◌, ◌||◌, Bool, List, length, slice_index}
-use Rattle.std.specs.Prelude.{Option}
-use Rattle.std.specs.Prelude.{Some, None, if◌then◌else◌}
-use Rattle.std.specs.List.{slice_get}
+use Rattle.std.specs.Prelude.{◌≡◌, ℕ, ℤ, ◌<◌, ◌==◌, ◌||◌, Bool, List, length, slice_index}
 use Rattle.omos_model.specs.ElfValues.{shn_abs}
-use Rattle.omos_model.specs.Names.{Name}
-use Rattle.omos_model.specs.ElfFields.{e_shnum, name_of, st_shndx, symbol_count}
-use Rattle.omos_model.specs.ElfFaults.{has_name, is_kept}
+use Rattle.omos_model.specs.ElfFields.{e_shnum, name_of, st_shndx}
+use Rattle.omos_model.specs.ElfFaults.{is_kept}
 use Rattle.omos_model.specs.FragmentOf.{is_common, section_piece, spot_of}
 use Rattle.omos_model.specs.declared.fragment.Aim.{Aim}
 use Rattle.omos_model.specs.declared.fragment.Export.{Export}
@@ -29,12 +25,3 @@ export_of file k = record { name = name_of file k; spot = spot_of file k }
 abbrev pub fixup_with : ℕ → ℕ → ℤ → Aim → Kind → Fixup
 fixup_with piece offset addend aim kind =
     record { piece = piece; offset = offset; kind = kind; addend = addend; aim = aim }
-
--- the name of a symbol that has one
-abbrev pub name_if : List ℕ → ℕ → Option Name
-name_if file k = if has_name file k then Some (name_of file k) else None
-
--- the names of the symbols by number; symbol 0 has none
-pub record AreSymbolNames (file : List ℕ) (names : List (Option Name)) : Type 0 where
-  pub all : length names ≡ symbol_count file
-  pub each : (k : ℕ) → 1 ≤ k → k < symbol_count file → slice_get names k ≡ Some (name_if file k)

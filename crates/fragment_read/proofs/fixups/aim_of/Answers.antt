@@ -22,8 +22,8 @@ spot_of-requires-clause-common c =
     (sym c.if-is_local.ensures) in
     λ common. absurd (true≢false (sym common ∙ none))
 
-pub name_at-requires-clause-has : goal.name_at-requires-clause-has
-name_at-requires-clause-has c =
+pub name-requires-clause-has : goal.name-requires-clause-has
+name-requires-clause-has c =
     let file = c.args.tables.now in
     let low : 1 ≤ c.args.k = omega (arith, c.if-k-eq0.false) in
     has_name_unless_local file c.args.k c.requires.right low

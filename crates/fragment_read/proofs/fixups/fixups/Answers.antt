@@ -1,4 +1,4 @@
-use Rattle.std.proofs.Common.{◌≡◌, List, length, map, ap, sym, ◌∙◌}
+use Rattle.std.proofs.Common.{List, length, map, ap, sym, ◌∙◌}
 use Rattle.std.proofs.lemmas.List.{length-map}
 use Rattle.dict_row.proofs.Decoded.{keys_of_mapped}
 use Rattle.omos_model.specs.FixupParts.{fixups_of}

@@ -1,5 +1,4 @@
-use Rattle.std.proofs.Common.{length, ap, arith}
-use Rattle.fragment_read.specs.inside.Used.{free}
+use Rattle.std.proofs.Common.{arith}
 use Rattle.fragment_read.proofs.UsedMore.{one_less_free}
 use Rattle.fragment_read.proofs.used.add.Goals as goal
 

@@ -1,4 +1,4 @@
-use Rattle.std.proofs.Common.{◌≡◌, ℕ, List, ◌∷◌, ◌++◌, [], suc, get_or, sym, ap, ◌∙◌, arith, rules}
+use Rattle.std.proofs.Common.{◌≡◌, ℕ, List, ◌∷◌, ◌++◌, [], suc, get_or, ap, ◌∙◌, arith}
 use Rattle.fragment_read.specs.declared.used.Used.{Used}
 use Rattle.fragment_read.proofs.UsedMore.{named_again, named_first, read_at}
 use Rattle.fragment_read.proofs.used.name.Goals as goal

@@ -1,4 +1,4 @@
-use Rattle.std.proofs.Common.{◌≡◌, List, [], ap, ◌∙◌, refl}
+use Rattle.std.proofs.Common.{ap, ◌∙◌}
 use Rattle.dict_row.specs.Keys.{decoded}
 use Rattle.fragment_read.proofs.UsedMore.{none_used}
 use Rattle.fragment_read.proofs.used.none.Goals as goal

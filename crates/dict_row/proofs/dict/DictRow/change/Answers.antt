@@ -1,4 +1,4 @@
-use Rattle.std.proofs.Common.{◌≡◌, length, map, ap, sym, ◌∙◌}
+use Rattle.std.proofs.Common.{length, map, ap, sym, ◌∙◌}
 use Rattle.std.proofs.lemmas.List.{with_items_is}
 use Rattle.dict_row.specs.Keys.{decoded}
 use Rattle.dict_row.proofs.Decoded.{map_decoded}

@@ -1,4 +1,4 @@
-use Rattle.std.proofs.Common.{◌≡◌, length, ap, ◌∙◌}
+use Rattle.std.proofs.Common.{length, ap, ◌∙◌}
 use Rattle.std.specs.List.{range_with_len}
 use Rattle.dict_row.specs.Keys.{decoded}
 use Rattle.dict_row.proofs.OwnKeys.{are_own_keys, decoded_by_own}

@@ -1,4 +1,4 @@
-use Rattle.std.proofs.Common.{ap, length, rules, arith}
+use Rattle.std.proofs.Common.{ap, length, arith}
 use Rattle.dict_row.proofs.Decoded.{place_below, key_below, value_at}
 use Rattle.dict_row.proofs.dict.DictRow.get.Goals as goal
 
