@@ -6,6 +6,7 @@ ghost use Rattle.omos_model.specs.State.{landed};
 ghost use Rattle.module_table.specs.TableParts.{defined_in};
 ghost use Rattle.link_model.specs.Module.{found};
 
+use dict_row::DictRow;
 use link_model::Found;
 use module_table::Table;
 use omos_base::{NoMemory, Row, Shared};
@@ -24,18 +25,32 @@ fn landing_of(table: &Table, mark: &Mark) -> Result<Landing, NoMemory>
     }
 }
 
-fn landings_of_leaf(alloc: Global, table: &Table, row: &MarkRow) -> Result<Row<Landing>, NoMemory>
-    ensures { IfOk result (λ xs. xs ≡ map (landed (defined_in table.now)) row.now.marks) }
+fn landings_of_marks(alloc: Global, table: &Table, marks: &[Mark]) -> Result<Row<Landing>, NoMemory>
+    ensures { IfOk result (λ xs. xs ≡ map (landed (defined_in table.now)) marks.now) }
 {
-    let mut landings = Row::from_vec(Vec::with_capacity(alloc, row.marks.len())?);
-    for mark in row.marks.as_slice() {
+    let mut landings = Row::from_vec(Vec::with_capacity(alloc, marks.len())?);
+    for mark in marks {
         landings.push(landing_of(table, mark)?)?;
     }
     Ok(landings)
 }
 
-/// What each reference lands on, leaf by leaf: a look-up for each that is open.
-pub(crate) fn landings(alloc: Global, table: &Table) -> Result<Row<Row<Landing>>, NoMemory>
+/// What the references of a leaf land on. They share the keys of the marks.
+fn landings_of_leaf(
+    alloc: Global,
+    table: &Table,
+    row: &MarkRow,
+) -> Result<DictRow<Landing>, NoMemory>
+    ensures { IfOk result (λ xs. xs ≡ map (landed (defined_in table.now)) row.now.marks) }
+{
+    let marks = row.marks.parts();
+    let landings = landings_of_marks(alloc, table, marks.values)?;
+    Ok(DictRow::of(marks.keys.twin()?, landings))
+}
+
+/// What each reference lands on, leaf by leaf: a look-up for each distinct reference of a leaf that
+/// is open.
+pub(crate) fn landings(alloc: Global, table: &Table) -> Result<Row<DictRow<Landing>>, NoMemory>
     ensures { IfOk result
         (λ xs. xs ≡ map (λ r. map (landed (defined_in table.now)) r.marks) table.now.rows) }
 {

@@ -26,8 +26,8 @@ fn holds_fragment(entry: &Entry)
 }
 
 /// The evaluation of a path on the namespace that its footprint lists, by the table of its
-/// term, whose seed it keeps. It costs a look-up for each reference that is open, and an owner
-/// for each name.
+/// term, whose seed it keeps. It costs a look-up for each distinct reference of a leaf that is
+/// open, and an owner for each name.
 pub fn land(
     alloc: Global,
     path: PathName,

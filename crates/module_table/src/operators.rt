@@ -45,7 +45,7 @@ impl Table {
     /// Puts an object's leaf behind the module, as `merge` does with the leaf's table, which isn't
     /// made. Where it is refused, the table stands for nothing.
     ///
-    /// It costs the object's names and references. The object is shared and not copied.
+    /// It costs the object's names and distinct references. The object is shared and not copied.
     pub fn merge_leaf<L: Ledger>(
         &mut self,
         number: u32,
@@ -94,7 +94,8 @@ impl Table {
     /// Gives the definition of one name, and what is open under it, to another. It is refused
     /// where the name is neither defined nor open, and where another definition has the new name.
     ///
-    /// It costs one pass over the references, in place.
+    /// It costs one pass over the distinct references, in place; where the name isn't defined and
+    /// is open, also one over the places of a leaf, up to the first that is open under it.
     pub fn rename<L: Ledger>(
         self,
         from: &SymName,
@@ -140,7 +141,7 @@ impl Table {
     /// Binds what is open under a name to its definition here, which stays. It is refused where
     /// the name isn't defined.
     ///
-    /// It costs one pass over the references, in place.
+    /// It costs one pass over the distinct references, in place.
     pub fn freeze<L: Ledger>(
         self,
         name: &SymName,
@@ -162,7 +163,7 @@ impl Table {
     /// Takes the definition of a name out, and binds what is open under it to it. It is refused
     /// where the name isn't defined.
     ///
-    /// It costs one pass over the references, in place.
+    /// It costs one pass over the distinct references, in place.
     pub fn hide<L: Ledger>(
         self,
         name: &SymName,
@@ -186,8 +187,8 @@ impl Table {
 
     /// Hides every name but these. It is refused for the first of them that isn't defined.
     ///
-    /// It costs a look-up for each of the names and one pass over the references, in place, with
-    /// two look-ups at most for each; the definitions that go are dropped.
+    /// It costs a look-up for each of the names and one pass over the distinct references, in
+    /// place, with two look-ups at most for each; the definitions that go are dropped.
     pub fn show<L: Ledger>(
         self,
         names: &[SymName],

@@ -39,7 +39,8 @@ impl Table {
     /// The table of one object: each name of it is defined, each reference by name is open. The
     /// seed is that of its hashes, and of each table that an operator makes of it.
     ///
-    /// The object is shared and not copied. The cost is that of its names and references.
+    /// The object is shared and not copied. The cost is that of its names and of its distinct
+    /// references: what many relocations aim at alike is one.
     pub fn leaf(
         alloc: Global,
         seed: Seed,
