@@ -1,4 +1,5 @@
 pub mod Right
+pub mod RightEntries
 pub mod Counted
 pub mod Made
 pub mod Whole

@@ -13,7 +13,8 @@ use Rattle.fragment_read.proofs.Counted.{made, made_more}
 use Rattle.fragment_read.specs.inside.Gathered.{gathered}
 use Rattle.fragment_read.specs.inside.Numbered.{fixup_with}
 use Rattle.fragment_read.proofs.Made.{fixup_is, no_fixup, read_is, type_is}
-use Rattle.fragment_read.proofs.Right.{kept_right, right_entry}
+use Rattle.fragment_read.proofs.Right.{kept_right}
+use Rattle.fragment_read.proofs.RightEntries.{right_entry}
 use Rattle.fragment_read.proofs.fixups.push_fixups.Goals as goal
 use Rattle.fragment_read.proofs.fixups.push_fixups.Goals.{in-Some+in_ok-push_fixup, in_default}
 
