@@ -63,8 +63,8 @@ back_from ns counted a b d above memo read k =
     }
 
 -- a blueprint that is kept was gone through again, and is closed
-pub back_again : (ns : Space) (counted : Bool) (a b : Walk) (opened closed : List Name)
-    (entered : Counts) (deepest : ℕ) (p : Name) (last : Option Name)
+pub back_again : {opened closed : List Name} {entered : Counts} {deepest : ℕ} (ns : Space)
+    (counted : Bool) (a b : Walk) (p : Name) (last : Option Name)
     → is_built a.memo.kept.entries p ≡ true
     → (AreFound ns a.counts.read.entries → AreFound ns entered.read.entries)
     → a.memo.deepest ≤ deepest → opened ≡ a.above ++ p ∷ []
@@ -76,7 +76,7 @@ pub back_again : (ns : Space) (counted : Bool) (a b : Walk) (opened closed : Lis
       counts = entered;
     }) b
     → ComesBack ns counted a (record b { above = closed })
-back_again ns counted a b opened closed entered deepest p last built found deeper is popped k =
+back_again {opened} {closed} ns counted a b p last built found deeper is popped k =
     let whole = k.above ∙ is in
     let all = b.memo.kept.entries in
     let reads = b.counts.read.entries in

@@ -317,11 +317,10 @@ pub blueprints::visit_again-returns-then-place-clause-back :
     goal.blueprints::visit_again-returns-then-place-clause-back
 blueprints::visit_again-returns-then-place-clause-back g t c =
     let ns = c.args.place.now.snap.now.entries in
-    back_again ns c.args.counted c.args.walk.now c.visit_nested.new.walk c.open_again.new.above
-    c.pop.new.self c.enter_again.new.counts c.deeper-walk-2.result c.args.blueprint.now.path.now
-    c.pop.result c.requires.built (c.in_ok-enter_again.ensures.found ns c.requires.there.entry)
-    c.deeper-walk-2.ensures.first c.in_ok-open_again.ensures.last c.pop.ensures
-    c.in_ok-visit_nested.ensures.back
+    back_again ns c.args.counted c.args.walk.now c.visit_nested.new.walk
+    c.args.blueprint.now.path.now c.pop.result c.requires.built
+    (c.in_ok-enter_again.ensures.found ns c.requires.there.entry) c.deeper-walk-2.ensures.first
+    c.in_ok-open_again.ensures.last c.pop.ensures c.in_ok-visit_nested.ensures.back
 
 pub blueprints::visit_again-returns-clause-walk : goal.blueprints::visit_again-returns-clause-walk
 blueprints::visit_again-returns-clause-walk g t c limit lim =
@@ -341,11 +340,10 @@ blueprints::visit_again-returns-clause-walk g t c limit lim =
 pub blueprints::visit_again-returns-clause-back : goal.blueprints::visit_again-returns-clause-back
 blueprints::visit_again-returns-clause-back g t c =
     let ns = c.args.place.now.snap.now.entries in
-    back_again ns c.args.counted c.args.walk.now c.visit_nested.new.walk c.open_again.new.above
-    c.pop.new.self c.enter_again.new.counts c.deeper-walk-2.result c.args.blueprint.now.path.now
-    c.pop.result c.requires.built (c.in_ok-enter_again.ensures.found ns c.requires.there.entry)
-    c.deeper-walk-2.ensures.first c.in_ok-open_again.ensures.last c.pop.ensures
-    c.in_ok-visit_nested.ensures.back
+    back_again ns c.args.counted c.args.walk.now c.visit_nested.new.walk
+    c.args.blueprint.now.path.now c.pop.result c.requires.built
+    (c.in_ok-enter_again.ensures.found ns c.requires.there.entry) c.deeper-walk-2.ensures.first
+    c.in_ok-open_again.ensures.last c.pop.ensures c.in_ok-visit_nested.ensures.back
 
 pub blueprints::visit_again-returns-then-has_room-clause-uses :
     goal.blueprints::visit_again-returns-then-has_room-clause-uses
