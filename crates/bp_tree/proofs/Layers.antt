@@ -100,3 +100,16 @@ pub text_CopyAs : (a b : Name) (x : Expr)
     → expr_text (expr.CopyAs a b x)
     ≡ codes "(copy_as " ++ a ++ codes " " ++ b ++ codes " " ++ expr_text x ++ codes ")"
 text_CopyAs a b x = fold_applied text_layer (CopyAs a b) x
+
+-- what the canonical text of each form of an expression is
+pub ruleset texts = (
+  text_Path,
+  text_Merge,
+  text_Override,
+  text_Rename,
+  text_Restrict,
+  text_Freeze,
+  text_Hide,
+  text_Show,
+  text_CopyAs,
+)

@@ -1,6 +1,7 @@
 -- The numbers of a range, and what may be wrong with them.
 use Rattle.std.proofs.Common.{◌≡◌, ℕ, List, [], ◌∷◌, ◌++◌, refl, sym, ap, subst, ◌∙◌, inl, codes}
 use Rattle.std.proofs.Common.{arith, IsTrue}
+use Rattle.std.specs.Str.Parse.{AllDigits}
 use Rattle.omos_model.specs.ImageParts.{is_range, top}
 use Rattle.omos_model.specs.declared.refusal.BpFault.TheVariants.{Shape, Number, Range}
 use Rattle.bp_tree.specs.Tokens.{Token, Open, Close, Word, Placed}
@@ -87,48 +88,11 @@ number_shape s k ts t after e none =
 abbrev top_word : List ℕ
 top_word = codes "140737488351232"
 
+top_digits : AllDigits 10 top_word
+top_digits = search arith
+
 top_number : IsNumeralOf top_word top
-top_number = (
-  inl (
-    (
-      omega arith,
-      (
-        omega arith,
-        (
-          omega arith,
-          (
-            omega arith,
-            (
-              omega arith,
-              (
-                omega arith,
-                (
-                  omega arith,
-                  (
-                    omega arith,
-                    (
-                      omega arith,
-                      (
-                        omega arith,
-                        (
-                          omega arith,
-                          (omega arith, (omega arith, (omega arith, (omega arith, (omega arith, tt))))),
-                        ),
-                      ),
-                    ),
-                  ),
-                ),
-              ),
-            ),
-          ),
-        ),
-      ),
-    ),
-    omega arith,
-    refl,
-  ),
-  omega arith,
-)
+top_number = (inl ((omega arith, top_digits), omega arith, refl), omega arith)
 
 abbrev low_word : List ℕ
 low_word = codes "65536"

@@ -50,7 +50,7 @@ fn push_operands(text: &mut Bytes, operands: &[Expr]) -> Result<(), NoMemory>
 
 /// Appends an expression.
 #[cycle(expression)]
-#[tactic(auto, using(crate::proofs::Layers::text_Path, crate::proofs::Layers::text_Merge, crate::proofs::Layers::text_Override, crate::proofs::Layers::text_Rename, crate::proofs::Layers::text_Restrict, crate::proofs::Layers::text_Freeze, crate::proofs::Layers::text_Hide, crate::proofs::Layers::text_Show, crate::proofs::Layers::text_CopyAs))]
+#[tactic(auto, using(crate::proofs::Layers::texts))]
 fn push_expr(text: &mut Bytes, expr: &Expr) -> Result<(), NoMemory>
     ensures { OnOk result (text.new ≡ text.old ++ expr_text expr.now) }
 {

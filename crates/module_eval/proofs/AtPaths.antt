@@ -26,7 +26,6 @@ use Rattle.module_eval.specs.inside.Counted.{StepsToNode, visit_of}
 use Rattle.module_eval.specs.inside.Walked.{Walked, Bars, path_in, tree_in}
 use Rattle.module_eval.specs.declared.counts.Counts.{Counts}
 use Rattle.module_eval.specs.declared.part.Part.{Part}
-use Rattle.module_eval.proofs.Joined.{means_any}
 
 module _ (ns : Name → Option Source) (above : List Name) (counted : Bool) (at p : Name)
     (v : Visit) where
@@ -148,14 +147,6 @@ pub walked_nested : (counting : Bool) (part : Part) (x : Trailer Term) (v : Visi
     → Walked counting (Ok part) (x (record v { node = 0 })) y
     → Walked counting (Ok part) (nested_on x v) (record y { node = v.node })
 walked_nested counting part x v y h = (h.0, rw h.1 refl, h.2)
-
--- what was built is known where the walk counts, too
-pub walked_any : (counting : Bool) (r : Result Part (Fault Refusal)) (walk : Trail Term)
-    (w : Counts)
-    → Walked false r walk w → Walked counting r walk w
-walked_any counting (Ok part) walk w h = (h.0, h.1, means_any counting part h.0 h.2)
-walked_any counting (Err (Refused x)) walk w h = h
-walked_any counting (Err NoMemory) walk w h = tt
 
 -- a walk that counts is refused as one that doesn't
 pub refused_any : (one other : Bool) (f : Fault Refusal) (walk : Trail Term) (w : Counts)

@@ -1,7 +1,7 @@
 -- A walk that has come back goes on.
-use Rattle.std.proofs.Common.{◌≡◌, ◌∙◌, ◌≤◌, ℕ, Bool, true, List, Some, length, Result, Ok, Err}
-use Rattle.std.proofs.Common.{refl, sym, ap, subst, arith}
-use Rattle.std.specs.Prelude.{OnOk, max}
+use Rattle.std.proofs.Common.{◌≡◌, ◌∙◌, ◌≤◌, ◌++◌, ◌∷◌, ℕ, Bool, true, false, List, []}
+use Rattle.std.proofs.Common.{Option, Some, length, Result, Ok, Err, refl, sym, ap, subst, arith}
+use Rattle.std.specs.Prelude.{MatchOption, OnOk, max}
 use Rattle.omos_model.specs.Names.{Name}
 use Rattle.omos_model.specs.Expansion.{Object, source}
 use Rattle.omos_model.specs.FragmentParts.{FragmentParts}
@@ -9,12 +9,14 @@ use Rattle.omos_model.specs.Namespace.{Space, look_up}
 use Rattle.omos_model.specs.declared.entry.Stamped.{Stamped}
 use Rattle.module_eval.specs.Costs.{IsReadAlone, StayRead, is_built}
 use Rattle.module_eval.specs.inside.Found.{AreFound}
+use Rattle.module_eval.specs.inside.Known.{AreKnown}
 use Rattle.module_eval.specs.inside.Plans.{AreSpent}
 use Rattle.module_eval.specs.inside.Walks.{ComesBack, CountOn, MayGoOn}
 use Rattle.module_eval.specs.declared.counts.Counts.{Counts}
 use Rattle.module_eval.specs.declared.memo.Memo.{Memo}
 use Rattle.module_eval.specs.declared.walk.Walk.{Walk}
-use Rattle.module_eval.proofs.Known.{known_object}
+use Rattle.module_eval.proofs.Known.{known_object, known_popped}
+use Rattle.module_eval.proofs.Opened.{popped_so}
 
 pub count_on : (a b d : Counts) → CountOn a b → CountOn b d → CountOn a d
 count_on a b d h k = record { counted = k.counted; least = omega (arith, h.least, k.least) }
@@ -57,6 +59,38 @@ back_from ns counted a b d above memo read k =
           (subst (λ (m : Memo). is_built m.kept.entries q ≡ true) (sym memo) h);
       deepens = record { deeper = omega (arith, deepest, k.deepens.deeper); low = k.deepens.low };
       known = k.known;
+      away = k.away;
+    }
+
+-- a blueprint that is kept was gone through again, and is closed
+pub back_again : {opened closed : List Name} {entered : Counts} {deepest : ℕ} (ns : Space)
+    (counted : Bool) (a b : Walk) (p : Name) (last : Option Name)
+    → is_built a.memo.kept.entries p ≡ true
+    → (AreFound ns a.counts.read.entries → AreFound ns entered.read.entries)
+    → a.memo.deepest ≤ deepest → opened ≡ a.above ++ p ∷ []
+    → MatchOption last ((b.above ≡ []) × (closed ≡ [])) (λ q. b.above ≡ closed ++ q ∷ [])
+    → ComesBack ns true
+    (record a {
+      above = opened;
+      memo = record a.memo { apart = false; deepest = deepest };
+      counts = entered;
+    }) b
+    → ComesBack ns counted a (record b { above = closed })
+back_again {opened} {closed} ns counted a b p last built found deeper is popped k =
+    let whole = k.above ∙ is in
+    let all = b.memo.kept.entries in
+    let reads = b.counts.read.entries in
+    let same = popped_so last b.above closed a.above p whole popped in
+    record {
+      above = same;
+      found = λ f. k.found (found f);
+      kept = k.kept;
+      stays = k.stays;
+      deepens =
+          record { deeper = omega (arith, deeper, k.deepens.deeper); low = k.deepens.low };
+      known = λ counted. subst (λ ps. AreKnown ns ps reads b.memo.apart all) (sym same)
+          (known_popped ns a.above b.above reads p whole b.memo.apart all (k.stays p built)
+          (k.known refl));
       away = k.away;
     }
 

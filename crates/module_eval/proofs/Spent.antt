@@ -1,4 +1,4 @@
--- What is known of tables that are gone, as paths are read and used.
+-- What is known of tables that are gone, as paths are read and blueprints kept.
 use Rattle.std.proofs.Common.{◌≡◌, ◌∙◌, ℕ, zero, suc, ◌+◌, ◌≤◌, Bool, true, false, cond, List}
 use Rattle.std.proofs.Common.{Option}
 use Rattle.std.proofs.Common.{Some, None, refl, sym, ap, subst, arith, true≢false}
@@ -17,14 +17,13 @@ use Rattle.omos_model.proofs.Names.{same_name-refl, same_name-true}
 use Rattle.module_eval.specs.Costs.{IsReadAlone}
 use Rattle.module_eval.specs.inside.Plans.{AreSpent, Covers, IsUsedOnce, IsPlanned, IsPlannedFor}
 use Rattle.module_eval.specs.inside.Plans.{IsCounted, uses_counted, count_of}
-use Rattle.module_eval.specs.inside.Times.{Affords, Spares, never, once, away, away_in, occurs}
-use Rattle.module_eval.specs.inside.Times.{occurs_in, occurs_of, occurs_read}
+use Rattle.module_eval.specs.inside.Times.{once, away, occurs_in, occurs_of, occurs_read}
 use Rattle.module_eval.specs.inside.Walks.{IsOwed}
 use Rattle.module_eval.specs.declared.memo.Kept.{Kept}
 use Rattle.module_eval.specs.declared.plan.Plan.{Plan}
 use Rattle.module_eval.specs.declared.plan.Plan.TheVariants.{Unmade, Counted, Unknown}
 use Rattle.module_eval.specs.declared.walk.Walk.{Walk}
-use Rattle.module_eval.proofs.Times.{of_member, sum_within}
+use Rattle.module_eval.proofs.Times.{sum_within}
 
 pub once_own : (p : Name) → once p p ≡ 1
 once_own p = ap {B = ℕ} (λ b. cond b 1 0) (same_name-refl p p refl)
@@ -144,7 +143,7 @@ still_there ns false false p walk owed once h e =
 
 -- ---- what is kept
 
-planned_kept : (ns : Space) (plan : Plan) (read : List (Name × Bor Stamped))
+pub planned_kept : (ns : Space) (plan : Plan) (read : List (Name × Bor Stamped))
     (all new : List (Name × Kept)) (p : Name) (only : Bool)
     → ((q : Name) → away new q ≤ away all q + once q p)
     → (only ≡ false → (q : Name) → away new q ≤ away all q)
@@ -175,208 +174,3 @@ planned_kept ns (Counted counts) read all new p true more same few h = record {
         let less = more q in
         let none : once q p ≡ 0 = ap {B = ℕ} (λ b. cond b 1 0) e in
         h.few q (omega (arith, less, none, k))
-
--- what the first use of a blueprint leaves
-pub record FirstUse
-    (ns : Space) (counting : Bool) (p : Name) (x : Tree)
-    (read opened after : List (Name × Bor Stamped)) (all nested new : List (Name × Kept))
-    : Type 0 where
-  pub named : (q : Name) → away all q ≤ occurs_read ns read q
-  pub fresh : (q : Name) → occurs_read ns read q + occurs q x ≤ occurs_read ns opened q
-  pub inside : Spares ns false (λ q. occurs q x) never opened after all nested
-  pub more : (q : Name) → away new q ≤ away nested q + once q p
-  pub idle : counting ≡ true → (q : Name) → away new q ≤ away nested q
-  pub owed : counting ≡ false → (q : Name) → away all q + once q p ≤ occurs_read ns read q
-
-module _ (ns : Space) (counting : Bool) (p : Name) (x : Tree)
-    (read opened after : List (Name × Bor Stamped)) (all nested new : List (Name × Kept))
-    (u : FirstUse ns counting p x read opened after all nested new) where
-  first_bound : (q : Name) → away new q ≤ occurs_read ns after q
-  first_bound q = go counting refl
-    where
-      go : (c : Bool) → counting ≡ c → away new q ≤ occurs_read ns after q
-      go true e = omega (arith, u.named q, u.fresh q, u.inside.each q, u.idle e q)
-      go false e = omega (arith, u.owed e q, u.fresh q, u.inside.each q, u.more q)
-
-  pub first_uses : Spares ns counting (λ q. once q p) never read after all new
-  first_uses = record {
-    each = λ q. go q counting refl;
-    idle = λ e q. omega (arith, u.fresh q, u.inside.each q, u.idle e q);
-    grown = λ q. omega (arith, u.fresh q, u.inside.grown q);
-  }
-    where
-      go : (q : Name) (c : Bool) → counting ≡ c
-          → away_in counting new q + 0 + occurs_read ns read q
-          ≤ away_in counting all q + once q p + occurs_read ns after q
-      go q true e =
-          let one = ap (λ c. away_in c new q) e in
-          let two = ap (λ c. away_in c all q) e in
-          omega (arith, one, two, u.fresh q, u.inside.grown q)
-      go q false e =
-          let one = ap (λ c. away_in c new q) e in
-          let two = ap (λ c. away_in c all q) e in
-          omega (arith, one, two, u.fresh q, u.inside.each q, u.more q)
-
-  pub first_spent : (plan : Plan) (only : Bool)
-      → (only ≡ false → (q : Name) → away new q ≤ away nested q)
-      → (only ≡ true → IsUsedOnce plan p) → IsPlanned ns plan after nested
-      → AreSpent ns plan after new
-  first_spent plan only same few h = record {
-    planned = planned_kept ns plan after nested new p only u.more same few h;
-    named = first_bound;
-  }
-
--- ---- further uses
-
-pub used_again : (ns : Space) (counting : Bool) (p : Name)
-    (read after : List (Name × Bor Stamped)) (all : List (Name × Kept))
-    → ((q : Name) → occurs_read ns read q ≤ occurs_read ns after q)
-    → Spares ns counting (λ q. once q p) never read after all all
-used_again ns counting p read after all grown = record {
-  each = λ q. let more = grown q in omega (arith, more);
-  idle = λ e q. let more = grown q in omega (arith, more);
-  grown = grown;
-}
-
--- its expression was gone through again, counting
-pub used_counting : (ns : Space) (counting : Bool) (p : Name) (x : Tree)
-    (read entered after : List (Name × Bor Stamped)) (all new : List (Name × Kept))
-    → ((q : Name) → occurs_read ns read q ≤ occurs_read ns entered q)
-    → Spares ns true (λ q. occurs q x) never entered after all new
-    → Spares ns counting (λ q. once q p) never read after all new
-used_counting ns counting p x read entered after all new grown h = record {
-  each = λ q. go q counting;
-  idle = λ e q. let more = grown q in omega (arith, more, h.idle refl q);
-  grown = λ q. let more = grown q in omega (arith, more, h.grown q);
-}
-  where
-    go : (q : Name) (c : Bool) → away_in c new q + 0 + occurs_read ns read q
-        ≤ away_in c all q + once q p + occurs_read ns after q
-    go q true = let more = grown q in omega (arith, more, h.grown q)
-    go q false = let more = grown q in omega (arith, more, h.idle refl q)
-
-pub can_count : (ns : Space) (p : Name) (x : Tree) (read : List (Name × Bor Stamped))
-    (all : List (Name × Kept)) → source ns p ≡ Some (Blueprint x)
-    → is_among (keys_of read) p ≡ true → Affords ns true (λ q. occurs q x) read all
-can_count ns p x read all there here = record {
-  each = λ q.
-      let own = of_member ns (keys_of read) p q here in
-      let same = ap (occurs_in q) there in
-      omega (arith, own, same);
-}
-
-pub can_nest : (ns : Space) (x : Tree) (read opened : List (Name × Bor Stamped))
-    (all : List (Name × Kept)) → ((q : Name) → away all q ≤ occurs_read ns read q)
-    → ((q : Name) → occurs_read ns read q + occurs q x ≤ occurs_read ns opened q)
-    → Affords ns false (λ q. occurs q x) opened all
-can_nest ns x read opened all named fresh = record {
-  each = λ q. let few = named q in let more = fresh q in omega (arith, few, more);
-}
-
--- ---- one step behind the other
-
-module _ (ns : Space) (counting : Bool) (owed left : Name → ℕ)
-    (read after : List (Name × Bor Stamped)) (all new : List (Name × Kept)) where
-  pub can_go_on : Affords ns counting owed read all
-      → Spares ns counting owed left read after all new → Affords ns counting left after new
-  can_go_on can h =
-      record { each = λ q. let one = can.each q in let two = h.each q in omega (arith, one, two) }
-
-  pub can_less : ((q : Name) → left q ≤ owed q) → Affords ns counting owed read all
-      → Affords ns counting left read all
-  can_less less can =
-      record { each = λ q. let one = can.each q in let two = less q in omega (arith, one, two) }
-
-  pub uses_on : (end : Name → ℕ) (later : List (Name × Bor Stamped)) (last : List (Name × Kept))
-      → Spares ns counting owed left read after all new
-      → Spares ns counting left end after later new last
-      → Spares ns counting owed end read later all last
-  uses_on end later last h k = record {
-    each = λ q. let one = h.each q in let two = k.each q in omega (arith, one, two);
-    idle = λ e q. let one = h.idle e q in let two = k.idle e q in omega (arith, one, two);
-    grown = λ q. let one = h.grown q in let two = k.grown q in omega (arith, one, two);
-  }
-
-  -- beside others that wait
-  pub uses_beside : (more rest : Name → ℕ) → ((q : Name) → more q ≡ owed q + rest q)
-      → Spares ns counting owed left read after all new
-      → Spares ns counting more (λ q. left q + rest q) read after all new
-  uses_beside more rest is h = record {
-    each = λ q. let one = h.each q in let two = is q in omega (arith, one, two);
-    idle = h.idle;
-    grown = h.grown;
-  }
-
-pub uses_none : (ns : Space) (counting : Bool) (owed left : Name → ℕ)
-    (read : List (Name × Bor Stamped)) (all : List (Name × Kept))
-    → ((q : Name) → left q ≤ owed q) → Spares ns counting owed left read read all all
-uses_none ns counting owed left read all less = record {
-  each = λ q. let one = less q in omega (arith, one);
-  idle = λ e q. omega arith;
-  grown = λ q. omega arith;
-}
-
--- a use that is owed where operators are applied
-pub owes : (ns : Space) (counting : Bool) (p : Name) (read : List (Name × Bor Stamped))
-    (all : List (Name × Kept)) → Affords ns counting (λ q. once q p) read all
-    → counting ≡ false → (q : Name) → away all q + once q p ≤ occurs_read ns read q
-owes ns counting p read all h e q =
-    let due = h.each q in
-    let is = ap (λ c. away_in c all q) e in
-    omega (arith, due, is)
-
--- the same uses, counted otherwise
-pub can_same : (ns : Space) (counting : Bool) (owed more : Name → ℕ)
-    (read : List (Name × Bor Stamped)) (all : List (Name × Kept))
-    → ((q : Name) → more q ≡ owed q) → Affords ns counting owed read all
-    → Affords ns counting more read all
-can_same ns counting owed more read all is h =
-    record { each = λ q. let one = h.each q in let two = is q in omega (arith, one, two) }
-
-pub uses_same : (ns : Space) (counting : Bool) (owed left more rest : Name → ℕ)
-    (read after : List (Name × Bor Stamped)) (all new : List (Name × Kept))
-    → ((q : Name) → owed q + rest q ≡ more q + left q)
-    → Spares ns counting owed left read after all new
-    → Spares ns counting more rest read after all new
-uses_same ns counting owed left more rest read after all new is h = record {
-  each = λ q. let one = h.each q in let two = is q in omega (arith, one, two);
-  idle = h.idle;
-  grown = h.grown;
-}
-
--- where nothing but nodes began before
-pub can_from : (ns : Space) (counting : Bool) (owed more : Name → ℕ)
-    (read other : List (Name × Bor Stamped)) (all new : List (Name × Kept))
-    → other ≡ read → new ≡ all → ((q : Name) → more q ≤ owed q)
-    → Affords ns counting owed read all → Affords ns counting more other new
-can_from ns counting owed more read other all new reads kept less h = record {
-  each = λ q.
-      let one = h.each q in
-      let two = less q in
-      let three = ap (λ r. occurs_read ns r q) reads in
-      let four = ap (λ m. away_in counting m q) kept in
-      omega (arith, one, two, three, four);
-}
-
-pub uses_from : (ns : Space) (counting : Bool) (owed left more rest : Name → ℕ)
-    (read other after : List (Name × Bor Stamped)) (all same new : List (Name × Kept))
-    → other ≡ read → same ≡ all → ((q : Name) → owed q + rest q ≡ more q + left q)
-    → Spares ns counting owed left other after same new
-    → Spares ns counting more rest read after all new
-uses_from ns counting owed left more rest read other after all same new reads kept is h = record {
-  each = λ q.
-      let one = h.each q in
-      let two = is q in
-      let three = ap (λ r. occurs_read ns r q) reads in
-      let four = ap (λ m. away_in counting m q) kept in
-      omega (arith, one, two, three, four);
-  idle = λ e q.
-      let one = h.idle e q in
-      let three = ap (λ r. occurs_read ns r q) reads in
-      let four = ap (λ m. away m q) kept in
-      omega (arith, one, three, four);
-  grown = λ q.
-      let one = h.grown q in
-      let three = ap (λ r. occurs_read ns r q) reads in
-      omega (arith, one, three);
-}

@@ -8,8 +8,8 @@ ghost use Rattle.omos_model.specs.Names.{Name};
 ghost use Rattle.omos_model.specs.Namespace.{Space};
 ghost use Rattle.module_eval.specs.declared.memo.Kept.{Kept};
 ghost use Rattle.module_eval.specs.inside.Plans.{AreCounts, IsUsedOnce, IsPlanned, StayCounted};
-ghost use Rattle.module_eval.specs.inside.Plans.{IsCounted, with_operands, with_uses};
-ghost use Rattle.module_eval.specs.inside.Times.{never};
+ghost use Rattle.module_eval.specs.inside.Plans.{IsCounted, with_uses};
+ghost use Rattle.module_eval.specs.inside.Times.{never, occurs_among};
 ghost use Rattle.module_eval.specs.inside.Walks.{space_of};
 
 use crate::counts::Counts;
@@ -77,7 +77,7 @@ fn go_on<'a>(
     counts: &mut IndexMap<ReadPath<'a>, u32, Seed>,
     waiting: &mut Items<Operands<'a>>,
 ) -> Result<(), NoMemory>
-    requires { AreCounts snap.now.entries (with_operands operands) counts.old.entries
+    requires { AreCounts snap.now.entries (occurs_among operands) counts.old.entries
         waiting.old }
     ensures counts { OnOk result
         (AreCounts snap.now.entries never counts.new.entries waiting.new) }

@@ -1,4 +1,4 @@
-use Rattle.std.proofs.Common.{◌≡◌, ◌∙◌, ◌+◌, ◌-◌, ◌<◌, ◌≤◌, ◌++◌, ◌∷◌, [], length, length-append}
+use Rattle.std.proofs.Common.{◌≡◌, ◌∙◌, ◌+◌, ◌-◌, ◌≤◌, ◌++◌, ◌∷◌, [], length, length-append}
 use Rattle.std.proofs.Common.{reverse, true, false, Ok, Err, sym, ap, refl, subst, arith}
 use Rattle.std.proofs.lemmas.Result.{err_from_is_err_and}
 use Rattle.omos_model.specs.Expansion.{here, site_of, source}
@@ -6,7 +6,7 @@ use Rattle.omos_model.specs.Names.{Name}
 use Rattle.omos_model.specs.Term.{Apply}
 use Rattle.omos_model.specs.Tree.{tree_of}
 use Rattle.omos_model.specs.declared.refusal.Refusal.TheVariants.{NoEntry}
-use Rattle.module_share.specs.Trails.{and_on, begin_on, nested_on, one_on, visit_on}
+use Rattle.module_share.specs.Trails.{and_on, begin_on, one_on, visit_on}
 use Rattle.module_eval.specs.inside.Counted.{visit_of}
 use Rattle.module_eval.specs.Costs.{operators, owed}
 use Rattle.module_eval.specs.inside.Known.{AreKnown}
@@ -20,14 +20,15 @@ use Rattle.module_eval.specs.inside.Walks.{CanUse, MayGoOn}
 use Rattle.module_eval.specs.declared.walk.Walk.{Walk}
 use Rattle.module_eval.proofs.Again.{run_of}
 use Rattle.module_eval.proofs.Charged.{ok_all, on_ok, owed_more}
-use Rattle.module_eval.proofs.Spent.{first_spent, first_uses, owes}
-use Rattle.module_eval.proofs.Spent.{used_again, used_counting, uses_from}
+use Rattle.module_eval.proofs.Entered.{gone_through, refused_before, refused_inside}
+use Rattle.module_eval.proofs.Spent.{planned_kept}
+use Rattle.module_eval.proofs.Uses.{named_then, used_again, used_counting, used_first, uses_from}
 use Rattle.module_eval.proofs.Times.{left_more}
 use Rattle.module_eval.specs.inside.Times.{occurs, occurs_at, occurs_left}
-use Rattle.module_eval.proofs.Further.{back_from, back_object, back_on, count_on, max_low}
-use Rattle.module_eval.proofs.Further.{ready_again}
+use Rattle.module_eval.proofs.Further.{back_again, back_from, back_object, back_on, count_on}
+use Rattle.module_eval.proofs.Further.{max_low, ready_again}
 use Rattle.module_eval.proofs.Joined.{means_any}
-use Rattle.module_eval.proofs.Known.{known_closed, known_popped}
+use Rattle.module_eval.proofs.Known.{known_closed}
 use Rattle.module_eval.proofs.Opened.{popped_so}
 use Rattle.module_eval.proofs.Reached.{named_by, reach_of, reused}
 use Rattle.module_eval.proofs.Ended.{after, begun, comes_more, ends_so, not_begun, popped, pushed}
@@ -35,9 +36,8 @@ use Rattle.module_eval.proofs.Ended.{refused_so, walked_on}
 use Rattle.module_eval.specs.declared.part.Part.TheVariants.{Counted}
 use Rattle.module_eval.specs.declared.pending.Pending.{Pending}
 use Rattle.module_eval.specs.declared.pending.Pending.TheVariants.{Under, First, Right}
-use Rattle.module_eval.proofs.AtPaths.{barred, none_at, not_opened, object_at, err_on_walk}
-use Rattle.module_eval.proofs.AtPaths.{refused_any, source_at, source_none, told, walked_any}
-use Rattle.module_eval.proofs.AtPaths.{walked_inside, walked_nested}
+use Rattle.module_eval.proofs.AtPaths.{barred, err_on_walk, none_at, object_at, source_at}
+use Rattle.module_eval.proofs.AtPaths.{source_none, told, walked_inside, walked_nested}
 use Rattle.module_eval.proofs.+visits.Goals as goal
 
 -- ---- a path
@@ -116,86 +116,65 @@ paths::visit_blueprint-returns-in-Some-clause-walk g t c limit lim =
 pub blueprints::visit_first-returns-in_err-open-clause-walk :
     goal.blueprints::visit_first-returns-in_err-open-clause-walk
 blueprints::visit_first-returns-in_err-open-clause-walk g t c =
-    let above = c.args.walk.now.above in
     let q = err_from_is_err_and c.from_residual.result c.from_residual.ensures.1 in
     rw (q.1, q.2)
-    (λ limit lim.
-    not_opened c.args.place.now.snap.now.entries limit above c.args.counted c.args.place.now.at.now
-    c.args.blueprint.now.path.now (visit_of c.args.walk.now.counts)
-    (tree_of c.args.blueprint.now.image.now.body) c.requires.there.opens c.requires.free.0
-    (subst (λ n. length above < n) (sym lim) c.requires.free.1)
-    c.args.place.now.counting c.in_err-open.field-0.0 c.open.new.counts c.in_err-open.ensures.walk)
+    (refused_before c.args.place.now c.args.counted c.args.blueprint.now c.args.walk.now
+    c.requires.there c.requires.free c.in_err-open.field-0.0 c.open.new.counts
+    c.in_err-open.ensures.walk)
 
 pub blueprints::visit_first-returns-in_err-part-clause-walk :
     goal.blueprints::visit_first-returns-in_err-part-clause-walk
 blueprints::visit_first-returns-in_err-part-clause-walk g t c =
-    let ns = c.args.place.now.snap.now.entries in
-    let above = c.args.walk.now.above in
-    let p = c.args.blueprint.now.path.now in
-    let x = tree_of c.args.blueprint.now.image.now.body in
-    let f = c.in_err-part.field-0.0 in
     let q = err_from_is_err_and c.from_residual-in_err-part.result
     c.from_residual-in_err-part.ensures.1 in
-    let walked = rw c.in_ok-open.ensures.last at c.in_err-part.ensures.walk in
     rw (q.1, q.2)
-    (λ limit lim.
-    walked_inside ns limit above c.args.counted c.args.place.now.at.now p
-    (visit_of c.args.walk.now.counts) x c.requires.there.opens c.requires.free.0
-    (subst (λ n. length above < n) (sym lim) c.requires.free.1)
-    c.args.place.now.counting (Err f) (site_of c.args.place.now.at.now c.in_ok-open.field-0)
-    c.open.new.counts c.visit_nested.new.walk.counts c.in_ok-open.ensures.walk
-    (refused_any false c.args.place.now.counting f
-    (nested_on (tree_in ns limit (above ++ p ∷ []) p x) (visit_of c.open.new.counts))
-    c.visit_nested.new.walk.counts (walked limit lim)))
+    (refused_inside c.args.place.now c.args.counted c.args.blueprint.now c.args.walk.now
+    c.requires.there c.requires.free c.open.new.above
+    (site_of c.args.place.now.at.now c.in_ok-open.field-0) c.open.new.counts
+    c.visit_nested.new.walk.counts c.in_ok-open.ensures.last c.in_ok-open.ensures.walk false
+    c.in_err-part.field-0.0 c.in_err-part.ensures.walk)
 
 pub blueprints::visit_first-returns-then-not-counted-clause-walk :
     goal.blueprints::visit_first-returns-then-not-counted-clause-walk
 blueprints::visit_first-returns-then-not-counted-clause-walk g t c limit lim =
-    let ns = c.args.place.now.snap.now.entries in
-    let above = c.args.walk.now.above in
-    let p = c.args.blueprint.now.path.now in
-    let x = tree_of c.args.blueprint.now.image.now.body in
-    let walked = rw c.in_ok-open.ensures.last at c.in_ok-part.ensures.walk in
-    let low = c.deeper-walk.ensures.second in
     let deep = c.in_ok-part.ensures.back.deepens.deeper in
-    let long = c.len-depth.ensures in
-    walked_inside ns limit above c.args.counted c.args.place.now.at.now p
-    (visit_of c.args.walk.now.counts) x c.requires.there.opens c.requires.free.0
-    (omega (arith, lim, low, deep, long))
-    c.args.place.now.counting (Ok c.in_ok-part.part)
+    let part = c.in_ok-part.part in
+    gone_through c.args.place.now c.args.counted c.args.blueprint.now c.args.walk.now
+    c.requires.there c.requires.free c.open.new.above
     (site_of c.args.place.now.at.now c.in_ok-open.field-0) c.open.new.counts
-    c.visit_nested.new.walk.counts c.in_ok-open.ensures.walk
-    (walked_any c.args.place.now.counting (Ok c.in_ok-part.part)
-    (nested_on (tree_in ns limit (above ++ p ∷ []) p x) (visit_of c.open.new.counts))
-    c.visit_nested.new.walk.counts (walked limit (omega (arith, lim, low))))
+    c.visit_nested.new.walk.counts c.in_ok-open.ensures.last c.in_ok-open.ensures.walk false part
+    part c.visit_nested.new.walk.memo.deepest (omega (arith, deep, c.len-depth.ensures))
+    c.in_ok-part.ensures.walk
+    (λ u means run. means_any c.args.place.now.counting part u means) limit
+    (omega (arith, lim, c.deeper-walk.ensures.second))
 
 pub blueprints::visit_first-returns-clause-walk : goal.blueprints::visit_first-returns-clause-walk
 blueprints::visit_first-returns-clause-walk g t c limit lim =
-    let ns = c.args.place.now.snap.now.entries in
-    let above = c.args.walk.now.above in
-    let p = c.args.blueprint.now.path.now in
-    let x = tree_of c.args.blueprint.now.image.now.body in
-    let v = visit_of c.open.new.counts in
-    let walked = rw c.in_ok-open.ensures.last at c.in_ok-part.ensures.walk in
-    let low = c.deeper-walk.ensures.second in
     let deep = c.in_ok-part.ensures.back.deepens.deeper in
-    let long = c.len-depth.ensures in
-    let same = c.in_ok-keep.ensures.deepest in
-    let walk = walked limit (omega (arith, lim, low, same)) in
-    let run =
-    run_of ns limit (above ++ p ∷ []) p x v (visit_of c.visit_nested.new.walk.counts) walk.0
-    c.requires.there.opens walk.1 in
-    walked_inside ns limit above c.args.counted c.args.place.now.at.now p
-    (visit_of c.args.walk.now.counts) x c.requires.there.opens c.requires.free.0
-    (omega (arith, lim, low, same, deep, long))
-    c.args.place.now.counting (Ok c.in_ok-keep.field-0)
+    let keep = c.in_ok-keep.ensures in
+    gone_through c.args.place.now c.args.counted c.args.blueprint.now c.args.walk.now
+    c.requires.there c.requires.free c.open.new.above
     (site_of c.args.place.now.at.now c.in_ok-open.field-0) c.open.new.counts
-    c.visit_nested.new.walk.counts c.in_ok-open.ensures.walk (
-      walk.0,
-      walk.1,
-      means_any c.args.place.now.counting _ walk.0
-          (c.in_ok-keep.ensures.part ns walk.0 walk.2 run),
-    )
+    c.visit_nested.new.walk.counts c.in_ok-open.ensures.last c.in_ok-open.ensures.walk false
+    c.in_ok-part.part c.in_ok-keep.field-0 c.visit_nested.new.walk.memo.deepest
+    (omega (arith, deep, c.len-depth.ensures)) c.in_ok-part.ensures.walk
+    (λ u means run. means_any c.args.place.now.counting c.in_ok-keep.field-0 u
+    (keep.part c.args.place.now.snap.now.entries u means run)) limit
+    (omega (arith, lim, c.deeper-walk.ensures.second, keep.deepest))
+
+pub blueprints::visit_first-returns-clause-uses : goal.blueprints::visit_first-returns-clause-uses
+blueprints::visit_first-returns-clause-uses g t c counted =
+    let ns = c.args.place.now.snap.now.entries in
+    let all = c.args.walk.now.memo.kept.entries in
+    let keep = c.in_ok-keep.ensures in
+    used_first ns c.args.place.now.counting c.args.blueprint.now.path.now
+    c.args.walk.now.counts.read.entries c.visit_nested.new.walk.counts.read.entries all
+    c.keep.new.self.kept.entries (tree_of c.args.blueprint.now.image.now.body)
+    c.open.new.counts.read.entries c.visit_nested.new.walk.memo.kept.entries
+    (c.in_ok-open.ensures.fresh ns (tree_of c.args.blueprint.now.image.now.body)
+    c.args.walk.now.memo.apart all c.requires.ready.known c.requires.there.opens
+    c.requires.free.0 c.requires.fresh)
+    c.in_ok-part.ensures.uses keep.away (λ e. keep.unspent (c.in_ok-only.ensures.idle e))
 
 pub blueprints::visit_first-returns-clause-back : goal.blueprints::visit_first-returns-clause-back
 blueprints::visit_first-returns-clause-back g t c =
@@ -246,64 +225,28 @@ blueprints::visit_first-returns-clause-back g t c =
       known = λ counted. rw keep.apart
           (subst (λ ps. AreKnown ns ps reads c.visit_nested.new.walk.memo.apart
           c.keep.new.self.kept.entries) (sym popped) closed);
-      away = first_spent ns c.args.place.now.counting p x
-          c.args.walk.now.counts.read.entries c.open.new.counts.read.entries reads
-          c.args.walk.now.memo.kept.entries c.visit_nested.new.walk.memo.kept.entries
-          c.keep.new.self.kept.entries
-          (record {
-            named = c.requires.ready.away.named;
-            fresh = c.in_ok-open.ensures.fresh ns x c.args.walk.now.memo.apart
-                c.args.walk.now.memo.kept.entries c.requires.ready.known
-                c.requires.there.opens c.requires.free.0 c.requires.fresh;
-            inside = c.in_ok-part.ensures.uses;
-            more = keep.away;
-            idle = λ e. keep.unspent (c.in_ok-only.ensures.idle e);
-            owed = owes ns c.args.place.now.counting p c.args.walk.now.counts.read.entries
-                c.args.walk.now.memo.kept.entries
-                (c.requires.owed.due c.if-not-counted.false);
-          })
-          c.is_only_use.new.self c.in_ok-only.only keep.unspent c.in_ok-only.ensures.few
-          (c.in_ok-only.ensures.planned c.visit_nested.new.walk.memo.kept.entries
-          c.in_ok-part.ensures.back.away.planned);
+      away = record {
+        planned = planned_kept ns c.is_only_use.new.self reads
+            c.visit_nested.new.walk.memo.kept.entries c.keep.new.self.kept.entries p
+            c.in_ok-only.only keep.away keep.unspent c.in_ok-only.ensures.few
+            (c.in_ok-only.ensures.planned c.visit_nested.new.walk.memo.kept.entries
+            c.in_ok-part.ensures.back.away.planned);
+        named = named_then ns c.args.place.now.counting p c.args.walk.now.counts.read.entries
+            reads c.args.walk.now.memo.kept.entries c.keep.new.self.kept.entries
+            c.requires.ready.away.named (c.requires.owed.due c.if-not-counted.false)
+            (blueprints::visit_first-returns-clause-uses g t c c.if-not-counted.false);
+      };
     }
-
-pub blueprints::visit_first-returns-clause-uses : goal.blueprints::visit_first-returns-clause-uses
-blueprints::visit_first-returns-clause-uses g t c counted =
-    let ns = c.args.place.now.snap.now.entries in
-    let p = c.args.blueprint.now.path.now in
-    let x = tree_of c.args.blueprint.now.image.now.body in
-    let keep = c.in_ok-keep.ensures in
-    let reads = c.args.walk.now.counts.read.entries in
-    first_uses ns c.args.place.now.counting p x reads c.open.new.counts.read.entries
-    c.visit_nested.new.walk.counts.read.entries
-    c.args.walk.now.memo.kept.entries c.visit_nested.new.walk.memo.kept.entries
-    c.keep.new.self.kept.entries
-    (record {
-      named = c.requires.ready.away.named;
-      fresh = c.in_ok-open.ensures.fresh ns x c.args.walk.now.memo.apart
-          c.args.walk.now.memo.kept.entries c.requires.ready.known
-          c.requires.there.opens c.requires.free.0 c.requires.fresh;
-      inside = c.in_ok-part.ensures.uses;
-      more = keep.away;
-      idle = λ e. keep.unspent (c.in_ok-only.ensures.idle e);
-      owed = owes ns c.args.place.now.counting p reads c.args.walk.now.memo.kept.entries
-          (c.requires.owed.due counted);
-    })
 
 -- ---- a further use
 
 pub blueprints::visit_again-returns-in_err-enter_again-clause-walk :
     goal.blueprints::visit_again-returns-in_err-enter_again-clause-walk
 blueprints::visit_again-returns-in_err-enter_again-clause-walk g t c =
-    let above = c.args.walk.now.above in
     let q = err_from_is_err_and c.from_residual.result c.from_residual.ensures.1 in
     rw (q.1, q.2)
-    (λ limit lim.
-    not_opened c.args.place.now.snap.now.entries limit above c.args.counted c.args.place.now.at.now
-    c.args.blueprint.now.path.now (visit_of c.args.walk.now.counts)
-    (tree_of c.args.blueprint.now.image.now.body) c.requires.there.opens c.requires.free.0
-    (subst (λ n. length above < n) (sym lim) c.requires.free.1)
-    c.args.place.now.counting c.in_err-enter_again.field-0.0 c.enter_again.new.counts
+    (refused_before c.args.place.now c.args.counted c.args.blueprint.now c.args.walk.now
+    c.requires.there c.requires.free c.in_err-enter_again.field-0.0 c.enter_again.new.counts
     c.in_err-enter_again.ensures.walk)
 
 pub blueprints::visit_again-returns-then-has_room-clause-walk :
@@ -347,131 +290,60 @@ blueprints::visit_again-returns-then-has_room-clause-walk g t c limit lim =
 pub blueprints::visit_again-returns-in_err-visit_nested-clause-walk :
     goal.blueprints::visit_again-returns-in_err-visit_nested-clause-walk
 blueprints::visit_again-returns-in_err-visit_nested-clause-walk g t c =
-    let ns = c.args.place.now.snap.now.entries in
-    let above = c.args.walk.now.above in
-    let p = c.args.blueprint.now.path.now in
-    let x = tree_of c.args.blueprint.now.image.now.body in
-    let f = c.in_err-visit_nested.field-0.0 in
     let q = err_from_is_err_and c.from_residual-in_err-visit_nested.result
     c.from_residual-in_err-visit_nested.ensures.1 in
-    let walked = rw c.in_ok-open_again.ensures.last at c.in_err-visit_nested.ensures.walk in
     rw (q.1, q.2)
-    (λ limit lim.
-    walked_inside ns limit above c.args.counted c.args.place.now.at.now p
-    (visit_of c.args.walk.now.counts) x c.requires.there.opens c.requires.free.0
-    (subst (λ n. length above < n) (sym lim) c.requires.free.1)
-    c.args.place.now.counting (Err f) (site_of c.args.place.now.at.now c.in_ok-enter_again.field-0)
-    c.enter_again.new.counts c.visit_nested.new.walk.counts c.in_ok-enter_again.ensures.walk
-    (refused_any true c.args.place.now.counting f
-    (nested_on (tree_in ns limit (above ++ p ∷ []) p x) (visit_of c.enter_again.new.counts))
-    c.visit_nested.new.walk.counts (walked limit lim)))
+    (refused_inside c.args.place.now c.args.counted c.args.blueprint.now c.args.walk.now
+    c.requires.there c.requires.free c.open_again.new.above
+    (site_of c.args.place.now.at.now c.in_ok-enter_again.field-0) c.enter_again.new.counts
+    c.visit_nested.new.walk.counts c.in_ok-open_again.ensures.last
+    c.in_ok-enter_again.ensures.walk true c.in_err-visit_nested.field-0.0
+    c.in_err-visit_nested.ensures.walk)
 
 pub blueprints::visit_again-returns-then-place-clause-walk :
     goal.blueprints::visit_again-returns-then-place-clause-walk
 blueprints::visit_again-returns-then-place-clause-walk g t c limit lim =
-    let ns = c.args.place.now.snap.now.entries in
-    let above = c.args.walk.now.above in
-    let p = c.args.blueprint.now.path.now in
-    let x = tree_of c.args.blueprint.now.image.now.body in
-    let walked = rw c.in_ok-open_again.ensures.last at c.in_ok-visit_nested.ensures.walk in
-    let low = c.deeper-walk-2.ensures.second in
     let deep = c.in_ok-visit_nested.ensures.back.deepens.deeper in
-    let long = c.len-depth.ensures in
-    let walk = walked limit lim in
-    walked_inside ns limit above c.args.counted c.args.place.now.at.now p
-    (visit_of c.args.walk.now.counts) x c.requires.there.opens c.requires.free.0
-    (omega (arith, lim, low, deep, long))
-    c.args.place.now.counting (Ok Counted)
+    gone_through c.args.place.now c.args.counted c.args.blueprint.now c.args.walk.now
+    c.requires.there c.requires.free c.open_again.new.above
     (site_of c.args.place.now.at.now c.in_ok-enter_again.field-0) c.enter_again.new.counts
-    c.visit_nested.new.walk.counts c.in_ok-enter_again.ensures.walk
-    (walk.0, walk.1, c.if-place.true)
+    c.visit_nested.new.walk.counts c.in_ok-open_again.ensures.last
+    c.in_ok-enter_again.ensures.walk true c.in_ok-visit_nested.field-0 Counted
+    c.visit_nested.new.walk.memo.deepest
+    (omega (arith, c.deeper-walk-2.ensures.second, deep, c.len-depth.ensures))
+    c.in_ok-visit_nested.ensures.walk (λ u means run. c.if-place.true) limit lim
 
 pub blueprints::visit_again-returns-then-place-clause-back :
     goal.blueprints::visit_again-returns-then-place-clause-back
 blueprints::visit_again-returns-then-place-clause-back g t c =
     let ns = c.args.place.now.snap.now.entries in
-    let above = c.args.walk.now.above in
-    let p = c.args.blueprint.now.path.now in
-    let reads = c.visit_nested.new.walk.counts.read.entries in
-    let memo = c.visit_nested.new.walk.memo in
-    let nested = c.in_ok-visit_nested.ensures.back in
-    let more = nested.above ∙ c.in_ok-open_again.ensures.last in
-    let popped =
-    popped_so c.pop.result c.visit_nested.new.walk.above c.pop.new.self above p more
-    c.pop.ensures in
-    let deeper = c.deeper-walk-2.ensures.first in
-    record {
-      above = popped;
-      found = λ f. nested.found (c.in_ok-enter_again.ensures.found ns c.requires.there.entry f);
-      kept = nested.kept;
-      stays = nested.stays;
-      deepens =
-          record {
-            deeper = omega (arith, deeper, nested.deepens.deeper);
-            low = nested.deepens.low;
-          };
-      known = λ counted. subst (λ ps. AreKnown ns ps reads memo.apart memo.kept.entries)
-          (sym popped)
-          (known_popped ns above c.visit_nested.new.walk.above reads p more memo.apart
-          memo.kept.entries (nested.stays p c.requires.built) (nested.known refl));
-      away = nested.away;
-    }
+    back_again ns c.args.counted c.args.walk.now c.visit_nested.new.walk
+    c.args.blueprint.now.path.now c.pop.result c.requires.built
+    (c.in_ok-enter_again.ensures.found ns c.requires.there.entry) c.deeper-walk-2.ensures.first
+    c.in_ok-open_again.ensures.last c.pop.ensures c.in_ok-visit_nested.ensures.back
 
 pub blueprints::visit_again-returns-clause-walk : goal.blueprints::visit_again-returns-clause-walk
 blueprints::visit_again-returns-clause-walk g t c limit lim =
-    let ns = c.args.place.now.snap.now.entries in
-    let above = c.args.walk.now.above in
-    let p = c.args.blueprint.now.path.now in
-    let x = tree_of c.args.blueprint.now.image.now.body in
-    let walked = rw c.in_ok-open_again.ensures.last at c.in_ok-visit_nested.ensures.walk in
-    let low = c.deeper-walk-2.ensures.second in
     let deep = c.in_ok-visit_nested.ensures.back.deepens.deeper in
-    let long = c.len-depth.ensures in
-    let walk = walked limit lim in
-    let run =
-    run_of ns limit (above ++ p ∷ []) p x (visit_of c.enter_again.new.counts)
-    (visit_of c.visit_nested.new.walk.counts) walk.0 c.requires.there.opens walk.1 in
-    walked_inside ns limit above c.args.counted c.args.place.now.at.now p
-    (visit_of c.args.walk.now.counts) x c.requires.there.opens c.requires.free.0
-    (omega (arith, lim, low, deep, long))
-    c.args.place.now.counting (Ok c.in_ok-again.field-0)
+    gone_through c.args.place.now c.args.counted c.args.blueprint.now c.args.walk.now
+    c.requires.there c.requires.free c.open_again.new.above
     (site_of c.args.place.now.at.now c.in_ok-enter_again.field-0) c.enter_again.new.counts
-    c.visit_nested.new.walk.counts c.in_ok-enter_again.ensures.walk (
-      walk.0,
-      walk.1,
-      c.in_ok-again.ensures ns p c.args.place.now.counting walk.0 c.requires.own c.requires.left
-          run,
-    )
+    c.visit_nested.new.walk.counts c.in_ok-open_again.ensures.last
+    c.in_ok-enter_again.ensures.walk true c.in_ok-visit_nested.field-0 c.in_ok-again.field-0
+    c.visit_nested.new.walk.memo.deepest
+    (omega (arith, c.deeper-walk-2.ensures.second, deep, c.len-depth.ensures))
+    c.in_ok-visit_nested.ensures.walk
+    (λ u means run. c.in_ok-again.ensures c.args.place.now.snap.now.entries
+    c.args.blueprint.now.path.now c.args.place.now.counting u c.requires.own c.requires.left run)
+    limit lim
 
 pub blueprints::visit_again-returns-clause-back : goal.blueprints::visit_again-returns-clause-back
 blueprints::visit_again-returns-clause-back g t c =
     let ns = c.args.place.now.snap.now.entries in
-    let above = c.args.walk.now.above in
-    let p = c.args.blueprint.now.path.now in
-    let reads = c.visit_nested.new.walk.counts.read.entries in
-    let memo = c.visit_nested.new.walk.memo in
-    let nested = c.in_ok-visit_nested.ensures.back in
-    let more = nested.above ∙ c.in_ok-open_again.ensures.last in
-    let popped =
-    popped_so c.pop.result c.visit_nested.new.walk.above c.pop.new.self above p more
-    c.pop.ensures in
-    let deeper = c.deeper-walk-2.ensures.first in
-    record {
-      above = popped;
-      found = λ f. nested.found (c.in_ok-enter_again.ensures.found ns c.requires.there.entry f);
-      kept = nested.kept;
-      stays = nested.stays;
-      deepens =
-          record {
-            deeper = omega (arith, deeper, nested.deepens.deeper);
-            low = nested.deepens.low;
-          };
-      known = λ counted. subst (λ ps. AreKnown ns ps reads memo.apart memo.kept.entries)
-          (sym popped)
-          (known_popped ns above c.visit_nested.new.walk.above reads p more memo.apart
-          memo.kept.entries (nested.stays p c.requires.built) (nested.known refl));
-      away = nested.away;
-    }
+    back_again ns c.args.counted c.args.walk.now c.visit_nested.new.walk
+    c.args.blueprint.now.path.now c.pop.result c.requires.built
+    (c.in_ok-enter_again.ensures.found ns c.requires.there.entry) c.deeper-walk-2.ensures.first
+    c.in_ok-open_again.ensures.last c.pop.ensures c.in_ok-visit_nested.ensures.back
 
 pub blueprints::visit_again-returns-then-has_room-clause-uses :
     goal.blueprints::visit_again-returns-then-has_room-clause-uses
@@ -485,22 +357,18 @@ blueprints::visit_again-returns-then-has_room-clause-uses g t c counted =
 pub blueprints::visit_again-returns-then-place-clause-uses :
     goal.blueprints::visit_again-returns-then-place-clause-uses
 blueprints::visit_again-returns-then-place-clause-uses g t c counted =
-    used_counting c.args.place.now.snap.now.entries c.args.place.now.counting
-    c.args.blueprint.now.path.now (tree_of c.args.blueprint.now.image.now.body)
-    c.args.walk.now.counts.read.entries c.enter_again.new.counts.read.entries
-    c.visit_nested.new.walk.counts.read.entries c.args.walk.now.memo.kept.entries
-    c.visit_nested.new.walk.memo.kept.entries
-    (c.in_ok-enter_again.ensures.occurs c.args.place.now.snap.now.entries)
+    let ns = c.args.place.now.snap.now.entries in
+    used_counting ns c.args.place.now.counting c.args.blueprint.now.path.now
+    (tree_of c.args.blueprint.now.image.now.body) c.args.walk.now c.visit_nested.new.walk
+    c.enter_again.new.counts.read.entries (c.in_ok-enter_again.ensures.occurs ns)
     c.in_ok-visit_nested.ensures.uses
 
 pub blueprints::visit_again-returns-clause-uses : goal.blueprints::visit_again-returns-clause-uses
 blueprints::visit_again-returns-clause-uses g t c counted =
-    used_counting c.args.place.now.snap.now.entries c.args.place.now.counting
-    c.args.blueprint.now.path.now (tree_of c.args.blueprint.now.image.now.body)
-    c.args.walk.now.counts.read.entries c.enter_again.new.counts.read.entries
-    c.visit_nested.new.walk.counts.read.entries c.args.walk.now.memo.kept.entries
-    c.visit_nested.new.walk.memo.kept.entries
-    (c.in_ok-enter_again.ensures.occurs c.args.place.now.snap.now.entries)
+    let ns = c.args.place.now.snap.now.entries in
+    used_counting ns c.args.place.now.counting c.args.blueprint.now.path.now
+    (tree_of c.args.blueprint.now.image.now.body) c.args.walk.now c.visit_nested.new.walk
+    c.enter_again.new.counts.read.entries (c.in_ok-enter_again.ensures.occurs ns)
     c.in_ok-visit_nested.ensures.uses
 
 pub blueprints::visit_again-visit_nested-requires :

@@ -44,10 +44,6 @@ IsCounted counts p = is_among (keys_of counts) p ≡ true
 abbrev pub with_uses : ℕ → Name → Name → ℕ
 with_uses n path p = if same_name p path then n else 0
 
--- what these operands name
-abbrev pub with_operands : List Expr → Name → ℕ
-with_operands xs p = occurs_among xs p
-
 -- each path that was counted still is
 abbrev pub StayCounted : List (Name × ℕ) → List (Name × ℕ) → Type 0
 StayCounted old new =

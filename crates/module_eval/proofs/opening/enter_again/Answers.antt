@@ -1,5 +1,5 @@
 use Rattle.module_eval.proofs.Charged.{on_ok, on_ok_both}
-use Rattle.module_eval.proofs.Spent.{can_count}
+use Rattle.module_eval.proofs.Uses.{can_count}
 use Rattle.module_eval.proofs.Known.{known_again}
 use Rattle.module_eval.proofs.opening.enter_again.Goals as goal
 

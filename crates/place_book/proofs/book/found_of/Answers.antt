@@ -23,8 +23,8 @@ placements-preserved c =
     (rw c.key_of-key.ensures at c.next_of-at-in-placements.ensures.value) in
     let step =
     filter_step p c.args.placed.now c.placements.at c.index-placed-at.result c.placements.found
-    c.push_of.new.found
-    c.placements-test.true c.index-placed-at.is c.placements.invariant.1 c.in_ok-push_of.ensures in (
+    c.push_of.new.found c.placements-test.true c.index-placed-at.is c.placements.invariant.1
+    c.in_ok-push_of.ensures in (
       omega (arith, count, c.next_of-at-in-placements.ensures.within),
       ap (λ ys. c.push_of.new.found ++ ys) jump ∙ step,
     )
