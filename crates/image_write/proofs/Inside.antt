@@ -6,8 +6,10 @@ use Rattle.std.specs.Prelude.{if◌then◌else◌, nat_le, not, ◌&&◌, slice_
 use Rattle.std.specs.Option.{option_map_or}
 use Rattle.std.proofs.lemmas.Bool.{and_parts, false≢true, leb-true, not-true}
 use Rattle.std.proofs.lemmas.List.{get_or_default, get_or_past}
+use Rattle.std.proofs.lemmas.List.Elements.{All-map}
 use Rattle.std.proofs.lemmas.Option.{slice_get_cases, unwrap_or-slice_get}
 use Rattle.std.proofs.lemmas.Slice.Zip.{length-zip, get_or-zip}
+use Rattle.omos_model.specs.FixupParts.{field_of}
 use Rattle.omos_model.specs.FragmentParts.{is_aim, is_field, is_fixup, is_piece, is_zeros, width}
 use Rattle.omos_model.specs.declared.entry.Entry.{Entry}
 use Rattle.omos_model.specs.declared.fragment.Fixup.{Fixup}
@@ -198,7 +200,7 @@ all-low parts places leaves h few =
 field-inside : (parts : Parts) (places : List (List ℕ)) (leaves : List Entry) (k : ℕ) (leaf : Entry)
     (x : Fixup)
     → LeafStands parts (get_or places k [], leaf) → is_fixup (pieces_in leaf) x ≡ true
-    → IsFieldInside (bytes_in_file parts) places k x
+    → IsFieldInside (bytes_in_file parts) places k (field_of x)
 field-inside parts places leaves k leaf x h fix =
     let field =
     (and_parts (is_field (pieces_in leaf) x.piece x.offset (width x.kind))
@@ -232,8 +234,9 @@ pub fields-inside : (parts : Parts) (places : List (List ℕ)) (leaves : List En
     → All IsLawful leaves → AreFieldsInside (bytes_in_file parts) places leaves
 fields-inside parts places leaves h lawful =
     record {
-      each = λ k leaf lt e j d within.
-          field-inside parts places leaves k leaf (get_or (fixups_in leaf) j d)
+      each = λ k leaf lt e.
+          All-map (IsFieldInside (bytes_in_file parts) places k) field_of (fixups_in leaf)
+          (λ j d within. field-inside parts places leaves k leaf (get_or (fixups_in leaf) j d)
           (leaf-at parts places leaves k leaf h lt e)
-          ((tested (object_of leaf) (subst IsLawful (sym e) (lawful k leaf lt))).fixups j d within);
+          ((tested (object_of leaf) (subst IsLawful (sym e) (lawful k leaf lt))).fixups j d within));
     }

@@ -2,7 +2,7 @@
 use Rattle.std.proofs.Common.{◌≡◌, ℕ, ◌+◌, ◌-◌, ◌<◌, ◌≤◌, List, [], ◌∷◌, ◌++◌, length, get_or, take}
 use Rattle.std.proofs.Common.{drop, map, reverse, min, zero, suc, Option, Some, None, Bool, true}
 use Rattle.std.proofs.Common.{false, unwrap_or, refl, sym, ap, subst, ◌∙◌, arith}
-use Rattle.std.specs.Prelude.{is_some, slice_index, if◌then◌else◌}
+use Rattle.std.specs.Prelude.{is_some, slice_get, slice_index, if◌then◌else◌}
 use Rattle.std.specs.Int.{bytes_low_first}
 use Rattle.std.specs.List.{enumerate_from, find, flat_map, zip}
 use Rattle.std.specs.Option.{option_map, option_or}
@@ -11,11 +11,16 @@ use Rattle.std.proofs.lemmas.List.{append-nil, get_or-map, reverse-append, take_
 use Rattle.std.proofs.lemmas.List.{take-append-drop, length-map}
 use Rattle.std.proofs.lemmas.List.Folds.{find-append}
 use Rattle.std.proofs.lemmas.List.FromFn.{get_or-enumerate_from, length-enumerate_from}
+use Rattle.std.proofs.lemmas.Option.{get_or_from_slice_get, slice_get-map, slice_get_within}
 use Rattle.std.proofs.lemmas.Slice.Zip.{length-zip, get_or-zip}
+use Rattle.dict_row.proofs.Decoded.{found}
 use Rattle.omos_base.specs.Endian.{little_bytes}
 use Rattle.omos_base.specs.Fields.{with_number}
+use Rattle.omos_model.specs.FixupParts.{field_of, fixup_at}
 use Rattle.omos_model.specs.FragmentParts.{width}
 use Rattle.omos_model.specs.declared.entry.Entry.{Entry}
+use Rattle.omos_model.specs.declared.fixups.Field.{Field}
+use Rattle.omos_model.specs.declared.fragment.Aim.{Aim}
 use Rattle.omos_model.specs.declared.fragment.Fixup.{Fixup}
 use Rattle.omos_model.specs.declared.mark.Landing.{Landing}
 use Rattle.omos_model.specs.declared.mark.Target.{Target}
@@ -159,6 +164,29 @@ leaf-more leaf fixups landings i f l lt ef el =
     ∙ (λ j. take i (references_of leaf fixups landings) ++ here j ∷ []) where
       zero_more : (j : ℕ) → 0 + j ≡ j
       zero_more j = omega arith
+
+-- the same from the fields alone: whatever is aimed at, it is there
+pub field-more : (leaf : ℕ) (fixups : List Fixup) (landings : List Landing) (i : ℕ)
+    (fields : List Field) (d : Field) (l : Landing)
+    → map field_of fixups ≡ fields → i < length fields → slice_get landings i ≡ Some l
+    → (aim : Aim) × (take (i + 1) (references_of leaf fixups landings)
+    ≡ take i (references_of leaf fixups landings)
+    ++ reference_of leaf (i, (fixup_at (get_or fields i d, aim), l)) ∷ [])
+field-more leaf fixups landings i fields d l are lt is =
+    let count : length fixups ≡ length fields = sym (length-map fixups field_of) ∙ ap length are in
+    let below = slice_get_within landings i l is in
+    let here = found fixups i (omega (arith, lt, count)) in
+    let seen : field_of here.0 ≡ get_or fields i d =
+    sym (get_or_from_slice_get (map field_of fixups) i (field_of here.0) d
+    (slice_get-map field_of fixups i ∙ ap (option_map field_of) here.1))
+    ∙ ap (λ xs. get_or xs i d) are in (
+      here.0.aim,
+      leaf-more leaf fixups landings i here.0 l (omega (arith, lt, count, below))
+          (sym (get_or_from_slice_get fixups i here.0 here.0 here.1))
+          (sym (get_or_from_slice_get landings i l l is))
+          ∙ ap (λ x. take i (references_of leaf fixups landings)
+          ++ reference_of leaf (i, (fixup_at (x, here.0.aim), l)) ∷ []) seen,
+    )
 
 pub leaf-all : (leaf : ℕ) (fixups : List Fixup) (landings : List Landing) (i : ℕ)
     → min (length fixups) (length landings) ≤ i

@@ -5,8 +5,10 @@ use Rattle.std.specs.Prelude.{Result, MatchResult, is_some, slice_index, unwrap_
 use Rattle.std.specs.List.{enumerate_from, find, zip}
 use Rattle.std.specs.Option.{option_map}
 use Rattle.omos_base.specs.Endian.{little_bytes}
+use Rattle.omos_model.specs.FixupParts.{field_of}
 use Rattle.omos_model.specs.FragmentParts.{width}
 use Rattle.omos_model.specs.declared.entry.Entry.{Entry}
+use Rattle.omos_model.specs.declared.fixups.Field.{Field}
 use Rattle.omos_model.specs.declared.fragment.Fixup.{Fixup}
 use Rattle.omos_model.specs.declared.mark.Landing.{Landing}
 use Rattle.omos_model.specs.declared.mark.Target.{Target}
@@ -31,13 +33,13 @@ references_of leaf fixups landings =
     map (reference_of leaf) (enumerate_from 0 (zip fixups landings))
 
 -- a leaf's field lies in so many bytes
-pub record IsFieldInside (size : ℕ) (places : List (List ℕ)) (leaf : ℕ) (x : Fixup) : Type 0 where
+pub record IsFieldInside (size : ℕ) (places : List (List ℕ)) (leaf : ℕ) (x : Field) : Type 0 where
   pub inside : place_in places leaf x.piece + x.offset + width x.kind ≤ size
 
 -- the same for all fields of these leaves
 pub record AreFieldsInside (size : ℕ) (places : List (List ℕ)) (leaves : List Entry) : Type 0 where
   pub each : (k : ℕ) (leaf : Entry) → k < length leaves → leaf ≡ get_or leaves k leaf
-      → All (IsFieldInside size places k) (fixups_in leaf)
+      → All (IsFieldInside size places k) (map field_of (fixups_in leaf))
 
 module _ (places : List (List ℕ)) (slot : Target → ℕ) (base : ℕ) where
   -- the number that the field gets, if the value fits
