@@ -1,5 +1,5 @@
 -- What a search and a new entry do in a part is what they do in the whole version.
-use Rattle.std.proofs.Common.{ℕ, zero, suc, ◌+◌, ◌-◌, ◌<◌, ◌≤◌, ◌==◌, length, get_or, arith, ◌≡◌}
+use Rattle.std.proofs.Common.{ℕ, zero, suc, ◌+◌, ◌<◌, ◌≤◌, ◌==◌, length, get_or, arith, ◌≡◌}
 use Rattle.std.proofs.Common.{Bool, true, false, List, [], ◌∷◌, ◌++◌, append_assoc, Some, None}
 use Rattle.std.proofs.Common.{refl, sym, ap, ◌∙◌, cond, subst, take, drop, map}
 use Rattle.std.proofs.lemmas.List.{append-nil, take-append-drop}

@@ -1,27 +1,25 @@
 -- The branches with an entry: in order, filled, and as long as the counts say.
 use Rattle.std.proofs.Common.{ℕ, zero, suc, ◌+◌, ◌-◌, ◌<◌, ◌≤◌, ◌==◌, length, get_or, arith, ◌≡◌}
-use Rattle.std.proofs.Common.{Bool, true, false, List, [], ◌∷◌, ◌++◌, append_assoc, Some, None}
-use Rattle.std.proofs.Common.{refl, sym, ap, ◌∙◌, cond, subst, take, drop, map, sum, fold, min}
-use Rattle.std.proofs.Common.{is_some, not, is_none, Option, Bor, length-append, true≢false}
-use Rattle.std.specs.Option.{option_copied}
+use Rattle.std.proofs.Common.{Bool, true, false, List, [], ◌∷◌, ◌++◌, append_assoc, None}
+use Rattle.std.proofs.Common.{refl, sym, ap, ◌∙◌, cond, subst, take, drop, map, sum, fold}
+use Rattle.std.proofs.Common.{is_none, length-append, true≢false}
 use Rattle.std.proofs.lemmas.Bool.{eqb-true}
-use Rattle.std.proofs.lemmas.List.{length-take, length-take-le, length-drop, append-nil}
+use Rattle.std.proofs.lemmas.List.{length-take-le, length-drop, append-nil}
 use Rattle.std.proofs.lemmas.List.{take-append-drop}
 use Rattle.std.specs.List.{AllByRecursion}
 use Rattle.std.specs.List.Sorted.{IsStrictlySortedBy}
 use Rattle.std.specs.Ordering.{match_ordering, is_eq}
 use Rattle.std.specs.declared.cmp.Ordering.{Ordering}
 use Rattle.std.specs.declared.cmp.Ordering.TheVariants.{Less, Equal, Greater}
-use Rattle.omos_model.specs.Names.{Name, same_name, name_cmp}
+use Rattle.omos_model.specs.Names.{same_name, name_cmp}
 use Rattle.omos_model.specs.Namespace.{Space, look_up, with_entry}
 use Rattle.omos_model.specs.declared.entry.Stamped.{Stamped}
 use Rattle.omos_model.proofs.Names.{is_eq-name_cmp}
-use Rattle.omos_model.proofs.Ranges.{length-map}
-use Rattle.omos_model.proofs.Spaces.{Above, above-trans, paths, IsStrictlySortedBy-with_entry}
+use Rattle.omos_model.proofs.Spaces.{Above, above-trans, paths}
 use Rattle.name_tree.specs.Order.{IsInOrder}
-use Rattle.name_tree.specs.Tree.{joined_pages, AreFilled, IsFilled, entries_of, IsTree, page_counts}
-use Rattle.name_tree.specs.Tree.{branches_with, begun, part_at, parted, pages_with}
-use Rattle.name_tree.proofs.Parts.{Below, filled-some, begun-length, before-part, after-part}
+use Rattle.name_tree.specs.Tree.{joined_pages, AreFilled, entries_of, IsTree, page_counts}
+use Rattle.name_tree.specs.Tree.{branches_with, part_at, parted, pages_with}
+use Rattle.name_tree.proofs.Parts.{Below, filled-some, before-part, after-part}
 use Rattle.name_tree.proofs.Parts.{joined-split}
 use Rattle.name_tree.proofs.Alone.{none_in, with_entry-between, joined-append, joined-with}
 use Rattle.name_tree.proofs.Alone.{map-take, map-drop, get-joined, tree-some, branch-filled}
@@ -120,25 +118,25 @@ sum-counts (b ∷ bs) =
 
 -- ---- a tree with an entry
 
-all-append : {X : Type 0} (P : X → Type 0) (xs ys : List X) → AllByRecursion P xs
+pub all-append : {X : Type 0} (P : X → Type 0) (xs ys : List X) → AllByRecursion P xs
     → AllByRecursion P ys
     → AllByRecursion P (xs ++ ys)
 all-append P [] ys h i = i
 all-append P (x ∷ xs) ys h i = (h.0, all-append P xs ys h.1 i)
 
-all-take : {X : Type 0} (P : X → Type 0) (k : ℕ) (xs : List X) → AllByRecursion P xs
+pub all-take : {X : Type 0} (P : X → Type 0) (k : ℕ) (xs : List X) → AllByRecursion P xs
     → AllByRecursion P (take k xs)
 all-take P zero xs h = tt
 all-take P (suc k) [] h = tt
 all-take P (suc k) (x ∷ xs) h = (h.0, all-take P k xs h.1)
 
-all-drop : {X : Type 0} (P : X → Type 0) (k : ℕ) (xs : List X) → AllByRecursion P xs
+pub all-drop : {X : Type 0} (P : X → Type 0) (k : ℕ) (xs : List X) → AllByRecursion P xs
     → AllByRecursion P (drop k xs)
 all-drop P zero xs h = h
 all-drop P (suc k) [] h = tt
 all-drop P (suc k) (x ∷ xs) h = all-drop P k xs h.1
 
-parted-filled : {X : Type 0} (xs : List X) → 0 < length xs → length xs ≤ 65 → AreFilled (parted xs)
+pub parted-filled : {X : Type 0} (xs : List X) → 0 < length xs → length xs ≤ 65 → AreFilled (parted xs)
 parted-filled xs lt le = go (length xs == 65) refl
   where
     go : (b : Bool) → (length xs == 65) ≡ b
@@ -155,7 +153,7 @@ parted-filled xs lt le = go (length xs == 65) refl
         small : (n : ℕ) → n ≤ 65 → (n ≡ 65 → ⊥) → n ≤ 64
         small n le h = grind (arith, le, h)
 
-parted-all : {X : Type 0} (P : X → Type 0) (xs : List X) → AllByRecursion P xs
+pub parted-all : {X : Type 0} (P : X → Type 0) (xs : List X) → AllByRecursion P xs
     → AllByRecursion (λ ys. AllByRecursion P ys) (parted xs)
 parted-all P xs h = go (length xs == 65)
   where
@@ -165,14 +163,14 @@ parted-all P xs h = go (length xs == 65)
     go true = (all-take P 32 xs h, (all-drop P 32 xs h, tt))
     go false = (h, tt)
 
-parted-length : {X : Type 0} (xs : List X) → length (parted xs) ≤ 2
+pub parted-length : {X : Type 0} (xs : List X) → length (parted xs) ≤ 2
 parted-length xs = go (length xs == 65)
   where
     go : (b : Bool) → length (cond b (take 32 xs ∷ drop 32 xs ∷ []) (xs ∷ [])) ≤ 2
     go true = omega arith
     go false = omega arith
 
-parted-some : {X : Type 0} (xs : List X) → 0 < length (parted xs)
+pub parted-some : {X : Type 0} (xs : List X) → 0 < length (parted xs)
 parted-some xs = go (length xs == 65)
   where
     go : (b : Bool) → 0 < length (cond b (take 32 xs ∷ drop 32 xs ∷ []) (xs ∷ []))
@@ -212,119 +210,3 @@ with-length (x ∷ xs) s = go (name_cmp s.path x.path) (with-length xs s).1
     go Less i = (omega arith, omega arith)
     go Equal i = (omega arith, omega arith)
     go Greater i = (omega arith, omega (arith, i))
-
-pub page-short : (ps : List Space) (k : ℕ) → AreFilled ps → length (get_or ps k []) ≤ 64
-page-short [] k f = omega arith
-page-short (p ∷ ps) zero f = f.0.1
-page-short (p ∷ ps) (suc k) f = page-short ps k f.1
-
-pub branch-short : (bs : List (List Space)) (k : ℕ) → AreFilled bs → length (get_or bs k []) ≤ 64
-branch-short [] k f = omega arith
-branch-short (b ∷ bs) zero f = f.0.1
-branch-short (b ∷ bs) (suc k) f = branch-short bs k f.1
-
-page-parted : (ps : List Space) (k : ℕ) (s : Stamped) → AreFilled ps
-    → AreFilled (parted (with_entry (get_or ps k []) s))
-page-parted ps k s f =
-    let h = with-length (get_or ps k []) s in
-    let n : length (get_or ps k []) ≤ 64 = page-short ps k f in
-    let m : length (with_entry (get_or ps k []) s) ≤ length (get_or ps k []) + 1 = h.1 in
-    parted-filled (with_entry (get_or ps k []) s) h.0 (omega (arith, n, m))
-
-pub pages-with-filled : (ps : List Space) (s : Stamped) → AreFilled ps → AreFilled (pages_with ps s)
-pages-with-filled ps s f =
-    let k = part_at ps s.path in
-    all-append (λ p. IsFilled p) (take k ps ++ parted (with_entry (get_or ps k []) s))
-    (drop (suc k) ps)
-    (all-append (λ p. IsFilled p) (take k ps) (parted (with_entry (get_or ps k []) s))
-    (all-take (λ p. IsFilled p) k ps f) (page-parted ps k s f))
-    (all-drop (λ p. IsFilled p) (suc k) ps f)
-
-around-length : {X : Type 0} (xs ys : List X) (k : ℕ) → (length xs ≡ 0 → length ys ≤ 1)
-    → length ys ≤ 2
-    → (0 < length xs → k < length xs) → length (take k xs ++ ys ++ drop (suc k) xs) ≤ length xs + 1
-around-length xs ys k one two within =
-    let a : length (take k xs ++ ys ++ drop (suc k) xs)
-    ≡ length (take k xs ++ ys) + length (drop (suc k) xs) =
-    length-append (take k xs ++ ys) (drop (suc k) xs) in
-    let b : length (take k xs ++ ys) ≡ length (take k xs) + length ys =
-    length-append (take k xs) ys in
-    let t : length (take k xs) ≡ min k (length xs) = length-take k xs in
-    let d : length (drop (suc k) xs) ≡ length xs - suc k = length-drop (suc k) xs in
-    grind (arith, a, b, t, d, one, two, within)
-
-pub at-within : (ps : List Space) (p : Name) → 0 < length ps → part_at ps p < length ps
-at-within ps p lt = let h : begun ps p ≤ length ps = begun-length ps p in omega (arith, h, lt)
-
-pub branch-within : (bs : List (List Space)) (p : Name) → 0 < length bs
-    → part_at (map joined_pages bs) p < length bs
-branch-within bs p lt =
-    let size : length (map joined_pages bs) ≡ length bs = length-map joined_pages bs in
-    let within : part_at (map joined_pages bs) p < length (map joined_pages bs) =
-    at-within (map joined_pages bs) p (omega (arith, lt, size)) in
-    omega (arith, within, size)
-
-pub pages-with-length : (ps : List Space) (s : Stamped)
-    → (0 < length (pages_with ps s)) × (length (pages_with ps s) ≤ length ps + 1)
-pages-with-length ps s = (
-  some,
-  around-length ps made k (one ps) (parted-length (with_entry (get_or ps k []) s))
-      (at-within ps s.path),
-)
-  where
-    k : ℕ
-    k = part_at ps s.path
-
-    made : List Space
-    made = parted (with_entry (get_or ps (part_at ps s.path) []) s)
-
-    one : (ps : List Space) → length ps ≡ 0
-        → length (parted (with_entry (get_or ps (part_at ps s.path) []) s)) ≤ 1
-    one [] e = omega arith
-    one (p ∷ ps) e = absurd (omega (arith, e))
-
-    some : 0 < length (pages_with ps s)
-    some =
-        let a : length (take k ps ++ made ++ drop (suc k) ps)
-        ≡ length (take k ps ++ made) + length (drop (suc k) ps) =
-        length-append (take k ps ++ made) (drop (suc k) ps) in
-        let b : length (take k ps ++ made) ≡ length (take k ps) + length made =
-        length-append (take k ps) made in
-        let c : 0 < length made = parted-some (with_entry (get_or ps k []) s) in
-        omega (arith, a, b, c)
-
-pub tree-with : (bs : List (List Space)) (s : Stamped) → IsTree bs → IsTree (branches_with bs s)
-tree-with bs s t =
-    let k = part_at (map joined_pages bs) s.path in
-    let new = pages_with (get_or bs k []) s in
-    let h = pages-with-length (get_or bs k []) s in
-    let n : length (get_or bs k []) ≤ 64 = branch-short bs k t.filled in
-    let m : length new ≤ length (get_or bs k []) + 1 = h.1 in
-    record {
-      in_order =
-          subst IsInOrder (sym (entries-with bs s t))
-          (IsStrictlySortedBy-with_entry (entries_of bs) s t.in_order);
-      filled =
-          all-append (λ b. IsFilled b) (take k bs ++ parted new) (drop (suc k) bs)
-          (all-append (λ b. IsFilled b) (take k bs) (parted new)
-          (all-take (λ b. IsFilled b) k bs t.filled)
-          (parted-filled new h.0 (omega (arith, n, m))))
-          (all-drop (λ b. IsFilled b) (suc k) bs t.filled);
-      pages_filled =
-          all-append (λ b. AreFilled b) (take k bs ++ parted new) (drop (suc k) bs)
-          (all-append (λ b. AreFilled b) (take k bs) (parted new)
-          (all-take (λ b. AreFilled b) k bs t.pages_filled)
-          (parted-all (λ p. IsFilled p) new
-          (pages-with-filled (get_or bs k []) s (branch-filled bs k t.pages_filled))))
-          (all-drop (λ b. AreFilled b) (suc k) bs t.pages_filled);
-    }
-
-pub is_none-copied : {X : Type 0} (o : Option (Bor X)) → is_none o ≡ is_none (option_copied o)
-is_none-copied None = refl
-is_none-copied (Some x) = refl
-
-pub not-is_some : {X : Type 0} (o : Option X) (b : Bool) → is_some o ≡ not b → b ≡ is_none o
-not-is_some None true e = refl
-not-is_some None false e = absurd (true≢false (sym e))
-not-is_some (Some x) true e = absurd (true≢false e)
-not-is_some (Some x) false e = refl

@@ -1,7 +1,6 @@
 -- Three slices that follow one another: what they are of a list with an entry.
-use Rattle.std.proofs.Common.{ℕ, suc, ◌+◌, ◌-◌, ◌<◌, ◌≤◌, ◌==◌, length, get_or, arith, ◌≡◌, Bool}
-use Rattle.std.proofs.Common.{true, false}
-use Rattle.std.proofs.Common.{List, [], ◌∷◌, ◌++◌, append_assoc, refl, sym, ap, ◌∙◌, take, drop}
+use Rattle.std.proofs.Common.{ℕ, suc, ◌-◌, ◌==◌, length, get_or, arith, ◌≡◌}
+use Rattle.std.proofs.Common.{List, [], ◌∷◌, ◌++◌, append_assoc, sym, ap, ◌∙◌, take, drop}
 use Rattle.std.proofs.Common.{take_all}
 use Rattle.std.proofs.Common.{cond, map}
 use Rattle.std.proofs.lemmas.List.{length-drop}

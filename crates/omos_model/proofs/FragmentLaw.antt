@@ -37,7 +37,8 @@ use Rattle.omos_model.proofs.RightFile.{RightFile, IsSectionNumber}
 use Rattle.omos_model.proofs.RightFile.{right_file}
 use Rattle.omos_model.proofs.Pieces.{section_number, loaded, are_pieces, few_pieces}
 use Rattle.omos_model.proofs.Pieces.{section_there}
-use Rattle.omos_model.proofs.RightExports.{and_not, or_not, right_spot, right_exports, distinct_exports}
+use Rattle.omos_model.proofs.RightExports.{and_not, or_not, right_spot, right_exports}
+use Rattle.omos_model.proofs.RightExports.{distinct_exports}
 
 -- ---- fixups
 
