@@ -66,8 +66,8 @@ fn refuse(leaf: u32, number: u32, name: &SymName) -> Result<(), Fault<Refusal>>
     }))
 }
 
-/// L11 for the first of these references that is bound to nothing and isn't weak. Where all distinct
-/// landings are bound, the references aren't gone through.
+/// L11 for the first of these references that is bound to nothing and isn't weak. Where all
+/// distinct landings are bound, the references aren't gone through.
 fn check_fixups(
     leaf: u32,
     fixups: &Fixups,
