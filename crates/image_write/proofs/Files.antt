@@ -1,5 +1,5 @@
 -- The file that is written is the image.
-use Rattle.std.proofs.Common.{◌≡◌, ℕ, ◌+◌, ◌-◌, List, ◌++◌, length, take, drop, map, replicate}
+use Rattle.std.proofs.Common.{◌≡◌, ℕ, ◌+◌, List, ◌++◌, length, take, drop, map, replicate}
 use Rattle.std.proofs.Common.{Some, None, Ok, Err, unwrap_or, sym, ap, subst, ◌∙◌, arith}
 use Rattle.std.specs.Option.{option_map}
 use Rattle.std.proofs.lemmas.List.{drop_at, length-append, length-replicate, take-append-drop}

@@ -238,5 +238,6 @@ fields-inside parts places leaves h lawful =
           All-map (IsFieldInside (bytes_in_file parts) places k) field_of (fixups_in leaf)
           (λ j d within. field-inside parts places leaves k leaf (get_or (fixups_in leaf) j d)
           (leaf-at parts places leaves k leaf h lt e)
-          ((tested (object_of leaf) (subst IsLawful (sym e) (lawful k leaf lt))).fixups j d within));
+          ((tested (object_of leaf) (subst IsLawful (sym e) (lawful k leaf lt))).fixups
+          j d within));
     }

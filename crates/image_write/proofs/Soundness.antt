@@ -28,7 +28,6 @@ use Rattle.image_write.specs.inside.Standing.{LeavesStand}
 use Rattle.image_write.proofs.Inside.{all-inside, all-low, fields-inside, slots-inside}
 use Rattle.image_write.proofs.Lawful.{bounded}
 use Rattle.image_write.proofs.Standing.{leaves-stand}
-use Rattle.link_model.specs.Layout.{program_pieces}
 
 -- ---- the plan
 

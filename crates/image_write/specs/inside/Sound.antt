@@ -2,8 +2,7 @@
 use Rattle.std.specs.Prelude.{◌≡◌, ◌+◌, ◌*◌, ◌^◌, ◌≤◌, All, length, Ok}
 use Rattle.omos_model.specs.declared.fragment.Group.{Group}
 use Rattle.link_model.specs.Layout.{program_pieces, slots_begin}
-use Rattle.link_model.specs.Module.{Module, Placing, parts_of_module, placing_of, plan_of_module}
-use Rattle.link_model.specs.Plan.{Plan}
+use Rattle.link_model.specs.Module.{Module, Placing, parts_of_module, plan_of_module}
 use Rattle.link_model.specs.declared.groups.Groups.{Groups}
 use Rattle.image_write.specs.inside.Addresses.{AreLow}
 use Rattle.link_model.specs.Groups.{bytes_of}

@@ -22,7 +22,8 @@ returns-in_err-patch_leaf c =
     (overflow_in c.args.ground.now.places.now
     (slot_in c.args.ground.now.layout.now c.args.ground.now.base)
     c.args.ground.now.base) c.loop-leaf.leaf _ (parts_in c.args.leaves.now c.args.landings.now)
-    _ more c.loop-leaf.invariant.fit (c.in_err-patch_leaf.ensures (fixups_in c.index-leaves-leaf.result)
+    _ more c.loop-leaf.invariant.fit
+    (c.in_err-patch_leaf.ensures (fixups_in c.index-leaves-leaf.result)
     (sym c.fields_in.ensures.fields)))
 
 pub loop-leaf-preserved : goal.loop-leaf-preserved
