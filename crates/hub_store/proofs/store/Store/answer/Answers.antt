@@ -3,9 +3,9 @@ use Rattle.std.proofs.lemmas.List.{length_push}
 use Rattle.link_model.specs.Answer.{answer}
 use Rattle.link_model.specs.Module.{LinkedImage}
 use Rattle.image_cache.specs.Items.{leaving}
-use Rattle.hub_store.proofs.Links.{ticket_room, image_may_end, after_unstored, unstored_ending}
-use Rattle.hub_store.proofs.Links.{after_stored, stored_ending}
-use Rattle.hub_store.proofs.Links.{after_evicting, evicting_ending, facts_apart}
+use Rattle.hub_store.proofs.Links.{ticket_room, facts_apart}
+use Rattle.hub_store.proofs.Ended.{image_may_end, after_unstored, unstored_ending}
+use Rattle.hub_store.proofs.IntoCache.{after_stored, stored_ending, after_evicting, evicting_ending}
 use Rattle.hub_store.proofs.Storing.{as_new_told, storing_is, storing_none, step_for}
 use Rattle.hub_store.proofs.store.Store.answer.Goals as goal
 
