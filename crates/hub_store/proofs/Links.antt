@@ -5,6 +5,7 @@ use Rattle.std.proofs.Common.{Some, Ok, append-nil}
 use Rattle.std.specs.List.{All, list_any, remove}
 use Rattle.std.specs.Option.{option_map}
 use Rattle.std.proofs.lemmas.Bool.{and_parts}
+use Rattle.std.proofs.lemmas.List.{length_push}
 use Rattle.std.proofs.lemmas.List.Elements.{All-cons, All-get_or}
 use Rattle.std.proofs.lemmas.List.Folds.{list_any_at}
 use Rattle.omos_base.specs.Limits.{Counts as Limits}
@@ -176,6 +177,20 @@ pub ticket_room : (limits : Limits) (P : List Step) (space : Space) (book : List
     → length P + 3 ≤ limits.steps
 ticket_room limits P space book items t st ticket =
     room_to_answer limits.steps P (asking_of t) st.fits ticket.here
+
+-- the same once the request was answered
+pub room_answered : (limits : Limits) (P Q : List Step) (space : Space) (book : List Placement)
+    (items : List Item)
+    (t : TicketParts) (x : Step) (room : ℕ) → IsStore limits P space book items → IsTicket P t
+    → Q ≡ P ++ x ∷ [] → room ≡ limits.steps → length Q + 2 ≤ room
+room_answered limits P Q space book items t x room st ticket more same =
+    omega (
+      arith,
+      ticket_room limits P space book items t st ticket,
+      ap length more,
+      length_push P,
+      same,
+    )
 
 pub book_room : (limits : Limits) (P : List Step) (space : Space) (book : List Placement)
     (items : List Item)
