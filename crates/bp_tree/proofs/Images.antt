@@ -20,7 +20,8 @@ use Rattle.bp_tree.specs.inside.Symbols.{AreRead, WhyStops}
 use Rattle.bp_tree.specs.inside.Header.{IsHeaderPart, HasHead, body_syms, range_syms, image_syms}
 use Rattle.bp_tree.specs.declared.stop.Stop.{Stop}
 use Rattle.bp_tree.specs.declared.stop.Stop.TheVariants.{At}
-use Rattle.bp_tree.proofs.Headers.{range_open, no_start}
+use Rattle.bp_tree.proofs.Headers.{range_open}
+use Rattle.bp_tree.proofs.Starts.{no_start}
 use Rattle.bp_tree.proofs.Lawful.{expr_fits}
 use Rattle.bp_tree.proofs.Moves.{shape_fault}
 use Rattle.bp_tree.proofs.Sequences.{same}

@@ -6,11 +6,13 @@ mod NameLists
 mod Sequences
 mod Opened
 mod Expressions
+mod Keywords
 mod Arms
 mod Solids
 mod Operands
 mod Images
 mod Headers
+mod Starts
 mod Ranges
 mod Optional
 mod Lawful

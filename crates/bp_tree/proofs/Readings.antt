@@ -18,7 +18,8 @@ use Rattle.bp_tree.specs.declared.form.Form.TheVariants as form
 use Rattle.bp_tree.specs.declared.form.Applied.{Applied}
 use Rattle.bp_tree.specs.declared.form.Applied.TheVariants as kind
 use Rattle.bp_tree.proofs.Digits.{one_number}
-use Rattle.bp_tree.proofs.Expressions.{form_named, opened_head}
+use Rattle.bp_tree.proofs.Expressions.{opened_head}
+use Rattle.bp_tree.proofs.Keywords.{form_named}
 use Rattle.bp_tree.proofs.Headers.{word_in, part_kind}
 use Rattle.bp_tree.proofs.Samples.{expr_cases}
 

@@ -19,7 +19,8 @@ use Rattle.history_book.specs.declared.step.Step.TheVariants.{Answered, Evicted,
 use Rattle.history_book.proofs.Grow.{answered_push}
 use Rattle.history_book.proofs.Lawful.{sound_all, sound_nothing, follows_good}
 use Rattle.history_book.proofs.Legality.{cut_law}
-use Rattle.history_book.proofs.Numbers.{first_passes, first_behind, none_is, count_same, counted}
+use Rattle.history_book.proofs.Numbers.{first_passes, first_behind, none_is}
+use Rattle.history_book.proofs.Numbered.{count_same, counted}
 
 note_in_is : (n : ℕ) (s : Step) → is_some (note_in n s) ≡ is_answer_of n s
 note_in_is n (Put seat number path entry size) = refl

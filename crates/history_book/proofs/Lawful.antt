@@ -23,9 +23,9 @@ use Rattle.history_book.proofs.Dues.{IsDueBehind, Answer, Leaves, Comes, due_is,
 use Rattle.history_book.proofs.Dues.{request_below, same_below}
 use Rattle.history_book.proofs.Grow.{book_push, namespace_stays}
 use Rattle.history_book.proofs.Legality.{due_push, due_nothing}
-use Rattle.history_book.proofs.Numbers.{ask_now, fresh_ask, fresh_answer, answered_same}
-use Rattle.history_book.proofs.Numbers.{numbered_other, numbered_ask, numbered_answer}
-use Rattle.history_book.proofs.Numbers.{numbered_nothing}
+use Rattle.history_book.proofs.Numbers.{ask_now, fresh_ask, fresh_answer}
+use Rattle.history_book.proofs.Numbered.{answered_same, numbered_other, numbered_ask}
+use Rattle.history_book.proofs.Numbered.{numbered_answer, numbered_nothing}
 
 -- ---- what is due
 

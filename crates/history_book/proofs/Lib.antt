@@ -3,6 +3,7 @@ pub mod Published
 pub mod Briefs
 pub mod Legality
 pub mod Numbers
+pub mod Numbered
 pub mod Rooms
 pub mod Caches
 pub mod Dues

@@ -1,6 +1,7 @@
 //! What a record keeps of a step.
 
-ghost use Rattle.std.specs.Prelude.{◌≡◌, length};
+ghost use Rattle.std.specs.Prelude.{◌≡◌, ◌+◌, ◌<◌, ◌≤◌, ◌++◌, length, vec_len, vec_capacity};
+ghost use Rattle.history_book.specs.Briefs as briefs;
 
 use crate::step::Note;
 use omos_base::{PathName, Shared};
@@ -73,4 +74,16 @@ pub(crate) fn len_of(path: &PathName) -> u8
     ensures { result ≡ length path.now }
 {
     path.as_bytes().len() as u8
+}
+
+/// Appends a key, if there is one.
+pub(crate) fn push_key(keys: &mut Vec<u32>, key: Option<u32>)
+    requires { vec_len keys.old < vec_capacity keys.old }
+    ensures keys { keys.new.items ≡ keys.old.items ++ briefs.keys_of key }
+    ensures len { vec_len keys.new ≤ vec_len keys.old + 1 }
+    ensures room { vec_capacity keys.old ≤ vec_capacity keys.new }
+{
+    if let Some(key) = key {
+        keys.push(key).unwrap();
+    }
 }

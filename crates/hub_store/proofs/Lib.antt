@@ -4,4 +4,6 @@ pub mod Tickets
 pub mod Requests
 pub mod Storing
 pub mod Links
+pub mod Ended
+pub mod IntoCache
 pub mod Turns

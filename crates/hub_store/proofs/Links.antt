@@ -1,21 +1,20 @@
--- A store keeps what it is, from a link request to its answer.
+-- A store keeps what it is, from a link request to its image's place.
 use Rattle.std.proofs.Common.{◌≡◌, ℕ, ◌+◌, ◌<◌, ◌≤◌, true, false, ◌&&◌}
 use Rattle.std.proofs.Common.{List, [], ◌∷◌, ◌++◌, length, get_or, refl, ap, sym, ◌∙◌, subst, arith}
-use Rattle.std.proofs.Common.{append_assoc, Some, None, Ok, unwrap_or, append-nil}
+use Rattle.std.proofs.Common.{Some, Ok, append-nil}
 use Rattle.std.specs.List.{All, list_any, remove}
 use Rattle.std.specs.Option.{option_map}
 use Rattle.std.proofs.lemmas.Bool.{and_parts}
+use Rattle.std.proofs.lemmas.List.{length_push}
 use Rattle.std.proofs.lemmas.List.Elements.{All-cons, All-get_or}
 use Rattle.std.proofs.lemmas.List.Folds.{list_any_at}
 use Rattle.omos_base.specs.Limits.{Counts as Limits}
-use Rattle.omos_model.specs.Footprint.{footprint}
 use Rattle.omos_model.specs.Names.{Name}
 use Rattle.omos_model.specs.Namespace.{Space}
 use Rattle.omos_model.proofs.Names.{same_name-true}
 use Rattle.link_model.specs.Answer.{answer}
-use Rattle.link_model.specs.Module.{LinkedImage, Ready}
+use Rattle.link_model.specs.Module.{Ready}
 use Rattle.link_model.specs.Plan.{Plan, plan_of}
-use Rattle.link_model.proofs.Footprints.{own_frame_law}
 use Rattle.omos_model.specs.Places.{place_for, Stands}
 use Rattle.omos_model.specs.declared.placement.Place.{Place}
 use Rattle.omos_model.specs.declared.placement.Place.TheVariants as place
@@ -25,38 +24,34 @@ use Rattle.image_cache.specs.Items as held
 use Rattle.image_cache.specs.declared.item.Item.{Item}
 use Rattle.history_book.specs.Steps.{Ask}
 use Rattle.history_book.specs.Told.{requests, version_after, namespace_in, namespace_after, book_of}
-use Rattle.history_book.specs.Told.{ask_of, note_of, is_answered, is_placed, IsOpen}
+use Rattle.history_book.specs.Told.{ask_of, is_placed, IsOpen}
 use Rattle.history_book.specs.Room.{HasRoom}
 use Rattle.history_book.specs.Owed.{IsNumbered}
 use Rattle.history_book.specs.Cache.{CacheItem, cache_after, item_of, is_hit, is_current}
-use Rattle.history_book.specs.Cache.{without, base_in, stored_item, is_cached_as}
-use Rattle.history_book.specs.Due.{due, storing, storing_for}
-use Rattle.history_book.specs.Legal.{HasPlace, MayEnd}
-use Rattle.history_book.specs.declared.step.Note.{Note}
+use Rattle.history_book.specs.Cache.{is_cached_as}
+use Rattle.history_book.specs.Due.{storing_for}
+use Rattle.history_book.specs.Legal.{HasPlace}
 use Rattle.history_book.specs.declared.step.Note.TheVariants.{Image}
-use Rattle.history_book.specs.declared.step.Note.TheVariants as note
 use Rattle.history_book.specs.declared.step.Step.{Step}
 use Rattle.history_book.specs.declared.step.Step.TheVariants.{Asked, Placed}
-use Rattle.history_book.specs.declared.step.Step.TheVariants.{Answered, Evicted, Stored}
-use Rattle.history_book.proofs.Grow.{cache_push, namespace_same, namespace_stays, book_push}
+use Rattle.history_book.specs.declared.step.Step.TheVariants.{Answered}
+use Rattle.history_book.proofs.Grow.{cache_push, namespace_same, book_push}
 use Rattle.history_book.proofs.Grow.{version_same}
 use Rattle.history_book.proofs.Legality.{due_push, due_push_two, legal_push, legal_push_two}
-use Rattle.history_book.proofs.Legality.{legal_push_three, dues_none, dues_one, dues_two}
 use Rattle.history_book.proofs.Numbers.{asked_below, ask_now, ask_stays, fresh_ask, fresh_answer}
-use Rattle.history_book.proofs.Numbers.{answered_same}
-use Rattle.history_book.proofs.Numbers.{numbered_other, numbered_ask, numbered_answer}
-use Rattle.history_book.proofs.Rooms.{request_fits, other_fits, answered_fits, placed_fits}
+use Rattle.history_book.proofs.Numbered.{answered_same, numbered_other, numbered_ask}
+use Rattle.history_book.proofs.Numbered.{numbered_answer}
+use Rattle.history_book.proofs.Rooms.{request_fits, answered_fits, placed_fits}
 use Rattle.history_book.proofs.Rooms.{room_to_answer}
-use Rattle.history_book.proofs.Endings.{note_now}
 use Rattle.history_book.proofs.Caches.{AreApart, caches_are_apart, front_item}
 use Rattle.hub_store.specs.Keeps.{IsStore, AreTold, fact_of, facts, IsKeptItem}
 use Rattle.hub_store.specs.Parts.{StoreParts, Appended, TicketParts, IsTicket, asking_of}
-use Rattle.hub_store.specs.Links.{IsImageFor, ending, IsPlain, IsPlanFor, place_then}
+use Rattle.hub_store.specs.Links.{IsPlanFor, place_then}
 use Rattle.hub_store.specs.Links.{place_reply, placing, MayLink, PlaceGives, place_for_ticket}
 use Rattle.hub_store.specs.declared.reply.PlaceReply.{PlaceReply}
-use Rattle.hub_store.proofs.Facts.{any_fact, facts_without, touched, item_at_place, All-without}
+use Rattle.hub_store.proofs.Facts.{any_fact, touched, item_at_place}
 use Rattle.hub_store.proofs.Facts.{All-removed}
-use Rattle.hub_store.proofs.Kept.{all_kept, own_current, hit_answers, version_grows}
+use Rattle.hub_store.proofs.Kept.{all_kept, hit_answers}
 use Rattle.hub_store.proofs.Requests.{plain_push, told_push, below_same, request, book_le}
 use Rattle.hub_store.proofs.Tickets.{ticket_stays}
 
@@ -183,6 +178,20 @@ pub ticket_room : (limits : Limits) (P : List Step) (space : Space) (book : List
 ticket_room limits P space book items t st ticket =
     room_to_answer limits.steps P (asking_of t) st.fits ticket.here
 
+-- the same once the request was answered
+pub room_answered : (limits : Limits) (P Q : List Step) (space : Space) (book : List Placement)
+    (items : List Item)
+    (t : TicketParts) (x : Step) (room : ℕ) → IsStore limits P space book items → IsTicket P t
+    → Q ≡ P ++ x ∷ [] → room ≡ limits.steps → length Q + 2 ≤ room
+room_answered limits P Q space book items t x room st ticket more same =
+    omega (
+      arith,
+      ticket_room limits P space book items t st ticket,
+      ap length more,
+      length_push P,
+      same,
+    )
+
 pub book_room : (limits : Limits) (P : List Step) (space : Space) (book : List Placement)
     (items : List Item)
     (t : TicketParts) → IsStore limits P space book items → IsTicket P t
@@ -195,7 +204,7 @@ book_room limits P space book items t st ticket =
       book_le P,
     )
 
-ticket_below : (P : List Step) (t : TicketParts) → IsNumbered P → IsTicket P t
+pub ticket_below : (P : List Step) (t : TicketParts) → IsNumbered P → IsTicket P t
     → t.number < requests P
 ticket_below P t h ticket = asked_below P (asking_of t) h ticket.here.asked
 
@@ -273,287 +282,3 @@ place_given old new t r at reply e is n ticket stands = record {
       (ticket_then old.steps t r.layout.pages at ticket);
   links = subst (λ p. MayLink p r.layout.pages) (sym is) (may_link at r.layout.pages stands);
 }
-
--- ---- ending
-
--- an image that may end a link request does so by its answer
-pub image_may_end : (P : List Step) (t : TicketParts) (l : LinkedImage) (plan : Plan) → IsTicket P t
-    → IsImageFor P t l plan
-    → answer l.footprint l.path l.base ≡ Ok l.bytes → MayEnd P (asking_of t) (Image l.base)
-image_may_end P t l plan ticket image is =
-    let own = own_frame_law t.space t.path l.footprint image.listed in (
-      plan,
-      l.bytes,
-      image.place,
-      ap (λ ns. answer ns t.path l.base) (sym ticket.space) ∙ own.answered l.base
-          ∙ ap (λ p. answer l.footprint p l.base) (sym image.path) ∙ is,
-    )
-
-plain_due : (c : ℕ) (P : List Step) (seat n : ℕ) (x : Note) → IsPlain x
-    → due c (P ++ Answered seat n x ∷ []) ≡ None
-plain_due c P seat n (Image base) p = absurd p
-plain_due c P seat n (note.Refused x) p = due_push c P (Answered seat n (note.Refused x))
-plain_due c P seat n note.NoMemory p = due_push c P (Answered seat n note.NoMemory)
-plain_due c P seat n note.Replayed p = due_push c P (Answered seat n note.Replayed)
-
-answered_numbers : (P : List Step) (t : TicketParts) (x : Note) → IsNumbered P → IsTicket P t
-    → IsNumbered (P ++ Answered t.seat t.number x ∷ [])
-answered_numbers P t x h ticket = numbered_answer P (asking_of t) t.seat x h ticket.here
-
-answered_told : (P : List Step) (space : Space) (book : List Placement) (items : List Item)
-    (t : TicketParts) (x : Note)
-    → AreTold P space book items → IsTicket P t
-    → AreTold (P ++ Answered t.seat t.number x ∷ []) space book items
-answered_told P space book items t x told ticket =
-    plain_push P space book items items (Answered t.seat t.number x) told refl refl refl
-    (all_kept P (Answered t.seat t.number x ∷ []) items told.kept)
-    (answered_numbers P t x told.numbered ticket)
-
--- an answer after which nothing is due
-after_answer : (limits : Limits) (P : List Step) (space : Space) (book : List Placement)
-    (items : List Item)
-    (t : TicketParts) (x : Note) → IsStore limits P space book items → IsTicket P t
-    → MayEnd P (asking_of t) x
-    → due limits.cache (P ++ Answered t.seat t.number x ∷ []) ≡ None
-    → IsStore limits (P ++ Answered t.seat t.number x ∷ []) space book items
-after_answer limits P space book items t x st ticket may none =
-    let fits = answered_fits limits.steps P (asking_of t) t.seat x st.fits ticket.here in
-    record {
-      legal = legal_push limits.cache limits.steps P (Answered t.seat t.number x) st.legal
-          (t.path, t.version, ticket.here, may) none;
-      told = answered_told P space book items t x st.told ticket;
-      fits = omega arith;
-    }
-
-pub after_plain : (limits : Limits) (P : List Step) (space : Space) (book : List Placement)
-    (items : List Item)
-    (t : TicketParts) (x : Note) → IsStore limits P space book items → IsTicket P t
-    → MayEnd P (asking_of t) x → IsPlain x
-    → IsStore limits (P ++ Answered t.seat t.number x ∷ []) space book items
-after_plain limits P space book items t x st ticket may plain =
-    after_answer limits P space book items t x st ticket may
-    (plain_due limits.cache P t.seat t.number x plain)
-
-pub plain_ending : (c : ℕ) (P : List Step) (t : TicketParts) (x : Note) → IsPlain x
-    → ending c P t x ≡ Answered t.seat t.number x ∷ []
-plain_ending c P t x plain =
-    ap (λ ds. Answered t.seat t.number x ∷ ds)
-    (dues_none c (P ++ Answered t.seat t.number x ∷ []) (plain_due c P t.seat t.number x plain))
-
-image_due : (c : ℕ) (P : List Step) (space : Space) (book : List Placement) (items : List Item)
-    (t : TicketParts) (base : ℕ)
-    → AreTold P space book items → IsTicket P t
-    → due c (P ++ Answered t.seat t.number (Image base) ∷ [])
-    ≡ storing c (facts items) t.seat t.number t.path t.version
-image_due c P space book items t base told ticket =
-    let a : Step = Answered t.seat t.number (Image base) in
-    due_push c P a
-    ∙ ap (λ is. storing_for c is t.seat t.number (ask_of (P ++ a ∷ []) t.number))
-    (cache_push P a ∙ sym told.cache_is)
-    ∙ ap (storing_for c (facts items) t.seat t.number)
-    (ask_stays P (a ∷ []) t.number (asking_of t) ticket.here.asked)
-
-pub after_unstored : (limits : Limits) (P : List Step) (space : Space) (book : List Placement)
-    (items : List Item)
-    (t : TicketParts) (base : ℕ) → IsStore limits P space book items → IsTicket P t
-    → MayEnd P (asking_of t) (Image base)
-    → storing limits.cache (facts items) t.seat t.number t.path t.version ≡ None
-    → IsStore limits (P ++ Answered t.seat t.number (Image base) ∷ []) space book items
-after_unstored limits P space book items t base st ticket may none =
-    after_answer limits P space book items t (Image base) st ticket may
-    (image_due limits.cache P space book items t base st.told ticket ∙ none)
-
-pub unstored_ending : (limits : Limits) (P : List Step) (space : Space) (book : List Placement)
-    (items : List Item)
-    (t : TicketParts) (base : ℕ) → IsStore limits P space book items → IsTicket P t
-    → storing limits.cache (facts items) t.seat t.number t.path t.version ≡ None
-    → ending limits.cache P t (Image base) ≡ Answered t.seat t.number (Image base) ∷ []
-unstored_ending limits P space book items t base st ticket none =
-    ap (λ ds. Answered t.seat t.number (Image base) ∷ ds)
-    (dues_none limits.cache (P ++ Answered t.seat t.number (Image base) ∷ [])
-    (image_due limits.cache P space book items t base st.told ticket ∙ none))
-
--- ---- storing
-
-base_now : (P more : List Step) (seat n base : ℕ) → is_answered P n ≡ false
-    → base_in (note_of ((P ++ Answered seat n (Image base) ∷ []) ++ more) n) ≡ base
-base_now P more seat n base un =
-    ap (λ H. base_in (note_of H n)) (append_assoc P (Answered seat n (Image base) ∷ []) more)
-    ∙ ap base_in (note_now P more seat n (Image base) un)
-
--- the item of the image that ends the link request
-abbrev pub item_for : TicketParts → LinkedImage → Item
-item_for t l = record { number = t.number; version = t.version; current_at = t.version; image = l }
-
-listed_later : (P more : List Step) (t : TicketParts) (l : LinkedImage) → IsTicket P t
-    → footprint t.space t.path ≡ Some l.footprint
-    → footprint (namespace_in (P ++ more) t.version) t.path ≡ Some l.footprint
-listed_later P more t l ticket listed =
-    ap (λ ns. footprint ns t.path) (namespace_stays P more t.version ticket.within
-    ∙ sym ticket.space) ∙ listed
-
-item_told : (P more : List Step) (t : TicketParts) (l : LinkedImage) (plan : Plan) → IsTicket P t
-    → IsImageFor P t l plan
-    → fact_of (item_for t l)
-    ≡ stored_item ((P ++ Answered t.seat t.number (Image l.base) ∷ []) ++ more) (asking_of t)
-item_told P more t l plan ticket image =
-    let a : Step = Answered t.seat t.number (Image l.base) in
-    let listed =
-    ap (λ o. unwrap_or o [])
-    (ap (λ Q. footprint (namespace_in Q t.version) t.path) (append_assoc P (a ∷ []) more)
-    ∙ listed_later P (a ∷ more) t l ticket image.listed) in
-    let base = base_now P more t.seat t.number l.base ticket.here.waits in
-    λ i. record {
-      number = t.number;
-      path = image.path i;
-      version = t.version;
-      footprint = sym listed i;
-      base = sym base i;
-    }
-
-item_kept : (P more : List Step) (t : TicketParts) (l : LinkedImage) (plan : Plan) → IsTicket P t
-    → IsImageFor P t l plan
-    → IsKeptItem (P ++ more) (item_for t l)
-item_kept P more t l plan ticket image =
-    let read : footprint (namespace_in (P ++ more) t.version) l.path ≡ Some l.footprint =
-    ap (footprint (namespace_in (P ++ more) t.version)) image.path
-    ∙ listed_later P more t l ticket image.listed in
-    record {
-      read = read;
-      asked = omega (arith, ticket.within, version_grows P more);
-      current = own_current (namespace_in (P ++ more) t.version) l.path l.footprint read;
-      found = omega (arith, ticket.within, version_grows P more);
-    }
-
--- an item that is stored without another that goes for it
-pub after_stored : (limits : Limits) (P : List Step) (space : Space) (book : List Placement)
-    (items : List Item)
-    (t : TicketParts) (l : LinkedImage) (plan : Plan) → IsStore limits P space book items
-    → IsTicket P t
-    → IsImageFor P t l plan → MayEnd P (asking_of t) (Image l.base)
-    → storing limits.cache (facts items) t.seat t.number t.path t.version
-    ≡ Some (Stored t.seat t.number t.path t.version)
-    → IsStore limits
-    ((P ++ Answered t.seat t.number (Image l.base) ∷ []) ++ Stored t.seat t.number t.path
-    t.version ∷ [])
-    space book (item_for t l ∷ held.without_path l.path items)
-after_stored limits P space book items t l plan st ticket image may due_is =
-    let a : Step = Answered t.seat t.number (Image l.base) in
-    let s : Step = Stored t.seat t.number t.path t.version in
-    let Q : List Step = P ++ a ∷ [] in
-    let told = answered_told P space book items t (Image l.base) st.told ticket in
-    let left : List Item = item_for t l ∷ held.without_path l.path items in
-    let number =
-    below_same Q s t.number
-    (below_same P a t.number (ticket_below P t st.told.numbered ticket)) in
-    let cache : facts left ≡ stored_item Q (asking_of t) ∷ without t.path (facts items) =
-    ap (λ i. i ∷ facts (held.without_path l.path items)) (item_told P [] t l plan ticket image
-    ∙ ap (λ R. stored_item R (asking_of t)) (append-nil Q))
-    ∙ ap (λ is. stored_item Q (asking_of t) ∷ is) (facts_without l.path items
-    ∙ ap (λ p. without p (facts items)) image.path) in
-    let kept : All (IsKeptItem (Q ++ s ∷ [])) left =
-    All-cons (IsKeptItem (Q ++ s ∷ [])) (item_for t l) (held.without_path l.path items)
-    (subst (λ R. IsKeptItem R (item_for t l)) (sym (append_assoc P (a ∷ []) (s ∷ [])))
-    (item_kept P (a ∷ s ∷ []) t l plan ticket image))
-    (All-without (IsKeptItem (Q ++ s ∷ [])) l.path items (all_kept Q (s ∷ []) items told.kept)) in
-    let fits =
-    answered_fits limits.steps P (asking_of t) t.seat (Image l.base) st.fits ticket.here in
-    record {
-      legal = legal_push_two limits.cache limits.steps P a s st.legal
-          (t.path, t.version, ticket.here, may)
-          (image_due limits.cache P space book items t l.base st.told ticket ∙ due_is)
-          (due_push_two limits.cache P a s);
-      told = plain_push Q space book items left s told refl refl cache kept
-          (numbered_other Q s told.numbered number refl refl);
-      fits = other_fits 0 limits.steps Q s refl (omega arith);
-    }
-
-pub stored_ending : (limits : Limits) (P : List Step) (space : Space) (book : List Placement)
-    (items : List Item)
-    (t : TicketParts) (base : ℕ) → IsStore limits P space book items → IsTicket P t
-    → storing limits.cache (facts items) t.seat t.number t.path t.version
-    ≡ Some (Stored t.seat t.number t.path t.version)
-    → ending limits.cache P t (Image base)
-    ≡ Answered t.seat t.number (Image base) ∷ Stored t.seat t.number t.path t.version ∷ []
-stored_ending limits P space book items t base st ticket due_is =
-    let a : Step = Answered t.seat t.number (Image base) in
-    let s : Step = Stored t.seat t.number t.path t.version in
-    ap (λ ds. a ∷ ds) (dues_one limits.cache (P ++ a ∷ []) s
-    (image_due limits.cache P space book items t base st.told ticket ∙ due_is)
-    (due_push_two limits.cache P a s))
-
-stored_next : (c : ℕ) (P : List Step) (t : TicketParts) (base : ℕ) (last : Name) → IsTicket P t
-    → due c ((P ++ Answered t.seat t.number (Image base) ∷ []) ++ Evicted t.seat t.number last ∷ [])
-    ≡ Some (Stored t.seat t.number t.path t.version)
-stored_next c P t base last ticket =
-    let a : Step = Answered t.seat t.number (Image base) in
-    let e : Step = Evicted t.seat t.number last in
-    due_push_two c P a e
-    ∙ ap (option_map (λ (x : Ask). Stored t.seat t.number x.path x.version))
-    (ask_stays (P ++ a ∷ []) (e ∷ []) t.number (asking_of t)
-    (ask_stays P (a ∷ []) t.number (asking_of t) ticket.here.asked))
-
--- an item that is stored in place of the last one
-pub after_evicting : (limits : Limits) (P : List Step) (space : Space) (book : List Placement)
-    (items : List Item)
-    (t : TicketParts) (l : LinkedImage) (plan : Plan) (last : Name)
-    → IsStore limits P space book items → IsTicket P t
-    → IsImageFor P t l plan → MayEnd P (asking_of t) (Image l.base)
-    → storing limits.cache (facts items) t.seat t.number t.path t.version
-    ≡ Some (Evicted t.seat t.number last)
-    → IsStore limits
-    (((P ++ Answered t.seat t.number (Image l.base) ∷ []) ++ Evicted t.seat t.number last ∷ [])
-    ++ Stored t.seat t.number t.path t.version ∷ [])
-    space book (item_for t l ∷ held.without_path l.path (held.without_path last items))
-after_evicting limits P space book items t l plan last st ticket image may due_is =
-    let a : Step = Answered t.seat t.number (Image l.base) in
-    let e : Step = Evicted t.seat t.number last in
-    let s : Step = Stored t.seat t.number t.path t.version in
-    let Q : List Step = P ++ a ∷ [] in
-    let R : List Step = Q ++ e ∷ [] in
-    let rest : List Item = held.without_path last items in
-    let told = answered_told P space book items t (Image l.base) st.told ticket in
-    let below = below_same P a t.number (ticket_below P t st.told.numbered ticket) in
-    let after : AreTold R space book rest =
-    plain_push Q space book items rest e told refl refl (facts_without last items)
-    (All-without (IsKeptItem R) last items (all_kept Q (e ∷ []) items told.kept))
-    (numbered_other Q e told.numbered (below_same Q e t.number below) refl refl) in
-    let left : List Item = item_for t l ∷ held.without_path l.path rest in
-    let number = below_same R s t.number (below_same Q e t.number below) in
-    let cache : facts left ≡ stored_item R (asking_of t) ∷ without t.path (facts rest) =
-    ap (λ i. i ∷ facts (held.without_path l.path rest)) (item_told P (e ∷ []) t l plan ticket image)
-    ∙ ap (λ is. stored_item R (asking_of t) ∷ is) (facts_without l.path rest
-    ∙ ap (λ p. without p (facts rest)) image.path) in
-    let kept : All (IsKeptItem (R ++ s ∷ [])) left =
-    All-cons (IsKeptItem (R ++ s ∷ [])) (item_for t l) (held.without_path l.path rest)
-    (subst (λ X. IsKeptItem X (item_for t l))
-    (sym (append_assoc Q (e ∷ []) (s ∷ []) ∙ append_assoc P (a ∷ []) (e ∷ s ∷ [])))
-    (item_kept P (a ∷ e ∷ s ∷ []) t l plan ticket image))
-    (All-without (IsKeptItem (R ++ s ∷ [])) l.path rest (all_kept R (s ∷ []) rest after.kept)) in
-    let fits =
-    answered_fits limits.steps P (asking_of t) t.seat (Image l.base) st.fits ticket.here in
-    record {
-      legal = legal_push_three limits.cache limits.steps P a e s st.legal
-          (t.path, t.version, ticket.here, may)
-          (image_due limits.cache P space book items t l.base st.told ticket ∙ due_is)
-          (stored_next limits.cache P t l.base last ticket) (due_push_two limits.cache Q e s);
-      told = plain_push R space book rest left s after refl refl cache kept
-          (numbered_other R s after.numbered number refl refl);
-      fits = other_fits 0 limits.steps R s refl (other_fits 1 limits.steps Q e refl fits);
-    }
-
-pub evicting_ending : (limits : Limits) (P : List Step) (space : Space) (book : List Placement)
-    (items : List Item)
-    (t : TicketParts) (base : ℕ) (last : Name) → IsStore limits P space book items → IsTicket P t
-    → storing limits.cache (facts items) t.seat t.number t.path t.version
-    ≡ Some (Evicted t.seat t.number last)
-    → ending limits.cache P t (Image base)
-    ≡ Answered t.seat t.number (Image base) ∷ Evicted t.seat t.number last
-    ∷ Stored t.seat t.number t.path t.version ∷ []
-evicting_ending limits P space book items t base last st ticket due_is =
-    let a : Step = Answered t.seat t.number (Image base) in
-    let e : Step = Evicted t.seat t.number last in
-    let s : Step = Stored t.seat t.number t.path t.version in
-    ap (λ ds. a ∷ ds) (dues_two limits.cache (P ++ a ∷ []) e s
-    (image_due limits.cache P space book items t base st.told ticket ∙ due_is)
-    (stored_next limits.cache P t base last ticket))

@@ -27,7 +27,7 @@ use Rattle.history_book.proofs.Grow.{requests_push, book_push, cache_push, prese
 use Rattle.history_book.proofs.Grow.{present_put}
 use Rattle.history_book.proofs.Legality.{due_push, due_push_two, legal_push, legal_push_two}
 use Rattle.history_book.proofs.Legality.{legal_nothing}
-use Rattle.history_book.proofs.Numbers.{numbered_other, numbered_ask, numbered_nothing}
+use Rattle.history_book.proofs.Numbered.{numbered_other, numbered_ask, numbered_nothing}
 use Rattle.history_book.proofs.Rooms.{request_fits, other_fits, room_fits}
 use Rattle.hub_store.specs.Keeps.{IsStore, AreTold, facts, IsKeptItem}
 use Rattle.hub_store.proofs.Facts.{any_fact, facts_without, All-without}

@@ -5,8 +5,8 @@ use Rattle.bp_tree.specs.inside.Header.{range_syms}
 use Rattle.bp_tree.specs.inside.Symbols.{It, AName, AStart, Fails, AreSyms, WhyStops}
 use Rattle.bp_tree.proofs.Arms.{fault_onward}
 use Rattle.bp_tree.proofs.Sights.{not_true}
-use Rattle.bp_tree.proofs.Headers.{start_absent, entry_fails, entry_read, none_fails, none_read}
 use Rattle.bp_tree.proofs.Headers.{one_opening, opens_with}
+use Rattle.bp_tree.proofs.Starts.{start_absent, entry_fails, entry_read, none_fails, none_read}
 use Rattle.bp_tree.proofs.header.start.Goals as goal
 
 pub returns-in_ok-usual_start-in-None : goal.returns-in_ok-usual_start-in-None

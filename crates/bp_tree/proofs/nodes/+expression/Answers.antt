@@ -10,8 +10,8 @@ use Rattle.bp_tree.proofs.Sights.{seen_open, seen_close, seen_word, word_is, not
 use Rattle.bp_tree.proofs.Sequences.{fails_first, then_fails}
 use Rattle.bp_tree.proofs.Solids.{solid_it, solid_exprs, solid_end, solid_more}
 use Rattle.bp_tree.proofs.Expressions.{expr_early, expr_shape, expr_deep, path_read, opened_read}
-use Rattle.bp_tree.proofs.Expressions.{opened_fails, inside_early, inside_shape, form_read}
-use Rattle.bp_tree.proofs.Expressions.{form_fails, same_form}
+use Rattle.bp_tree.proofs.Expressions.{opened_fails}
+use Rattle.bp_tree.proofs.Keywords.{inside_early, inside_shape, form_read, form_fails, same_form}
 use Rattle.bp_tree.proofs.Operands.{operands_early, operand_fails, operand_more, operands_done}
 use Rattle.bp_tree.proofs.Operands.{path_more, word_fails}
 use Rattle.bp_tree.proofs.Forms.{applied_done, overridden_done, merged_done, shorter, no_path}

@@ -9,7 +9,7 @@ use Rattle.image_cache.specs.declared.item.Item.{Item}
 use Rattle.history_book.specs.Told.{namespace_after}
 use Rattle.hub_store.proofs.Facts.{same_item}
 use Rattle.hub_store.proofs.Kept.{all_known}
-use Rattle.hub_store.proofs.Links.{found_at, hit_told, after_hit, found_answers}
+use Rattle.hub_store.proofs.Links.{IsFoundAt, found_at, hit_told, after_hit, found_answers}
 use Rattle.hub_store.proofs.Requests.{after_missed, after_asked}
 use Rattle.hub_store.proofs.Tickets.{ticket_now, unplaced_now}
 use Rattle.hub_store.proofs.store.Store.ask.Goals as goal
@@ -75,14 +75,20 @@ returns-in_default-twin c =
     )
     (room, refl)
 
+-- the item that was found
+found : (c : goal.After-touch)
+    → IsFoundAt c.self.inside.snap.entries c.self.inside.cache.items c.args.path.now
+    c.in-Some.position c.at.result.now
+found c =
+    let i = c.at.result.now in
+    found_at c.self.inside.snap.entries c.self.inside.cache.items c.args.path.now
+    c.in-Some.position i c.in-Some.ensures.0 c.at.ensures (c.in-Some.ensures.1 i c.at.ensures)
+
 pub invariant_of-self-2 : goal.invariant_of-self-2
 invariant_of-self-2 c =
     let room = c.if-not-room.ensures.0 (search rules) in
     let items = c.self.inside.cache.items in
     let i = c.at.result.now in
-    let found =
-    found_at c.self.inside.snap.entries items c.args.path.now c.in-Some.position i
-    c.in-Some.ensures.0 c.at.ensures (c.in-Some.ensures.1 i c.at.ensures) in
     let touched = c.touch.ensures.items in
     let same =
     same_item items c.in-Some.position i touched.0 c.in-Some.ensures.0 c.at.ensures touched.1 in
@@ -102,7 +108,7 @@ invariant_of-self-2 c =
       base,
       c.tally-tally.ensures.value,
     ) (
-      after_hit _ _ _ _ _ c.args.seat _ _ _ c.self.invariant.0 room found,
+      after_hit _ _ _ _ _ c.args.seat _ _ _ c.self.invariant.0 room (found c),
       c.self.invariant.1,
       c.self.invariant.2,
     )
@@ -112,19 +118,16 @@ returns c =
     let room = c.if-not-room.ensures.0 (search rules) in
     let items = c.self.inside.cache.items in
     let i = c.at.result.now in
-    let found =
-    found_at c.self.inside.snap.entries items c.args.path.now c.in-Some.position i
-    c.in-Some.ensures.0 c.at.ensures (c.in-Some.ensures.1 i c.at.ensures) in
     let image = c.get.ensures ∙ c.in-Ok-twin.ensures in
     let bytes =
     subst (λ (l : LinkedImage). answer l.footprint l.path l.base ≡ Ok l.bytes) image
     c.is_answer.ensures in
     let answers =
     found_answers _ _ _ items c.args.path.now c.in-Some.position i _ c.self.invariant.0.told
-    found bytes in
+    (found c) bytes in
     let base = c.base.ensures.base ∙ ap (λ (l : LinkedImage). l.base) c.get-2.ensures in
     let path = ap (λ (l : LinkedImage). l.path) c.in-Ok-twin.ensures
-    ∙ sym (same_name-true c.args.path.now (path_of i) found.of_path) in
+    ∙ sym (same_name-true c.args.path.now (path_of i) (found c).of_path) in
     rw (
       ← c.self.view_is,
       c.push_answered.ensures.steps,

@@ -1,5 +1,6 @@
 use Rattle.std.proofs.Common.{refl, arith}
-use Rattle.hub_store.proofs.Links.{ticket_room, after_plain, plain_ending}
+use Rattle.hub_store.proofs.Links.{ticket_room}
+use Rattle.hub_store.proofs.Ended.{after_plain, plain_ending}
 use Rattle.hub_store.proofs.store.Store.note.Goals as goal
 
 pub push_answered-requires : goal.push_answered-requires
