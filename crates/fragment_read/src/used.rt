@@ -2,7 +2,7 @@
 
 ghost use Rattle.std.specs.Prelude.{◌≡◌, ◌∷◌, ◌++◌, [], suc, ◌<◌, set, length, replicate, IfOk};
 ghost use Rattle.std.specs.Prelude.{OnOk, slice_index};
-ghost use Rattle.fragment_read.specs.inside.Used.{AreUsed, HasNamed, symbols_of};
+ghost use Rattle.fragment_read.specs.inside.Used.{AreUsed, HasNamed, named_symbols};
 
 use omos_base::{NoMemory, Row};
 use std::alloc::Global;
@@ -29,7 +29,7 @@ fn no_places(alloc: Global, symbols: u32) -> Result<Vec<u32>, NoMemory>
 /// No relocations, of a file of so many symbols. There is room for as many as are given.
 pub(crate) fn none(alloc: Global, symbols: u32, room: usize) -> Result<Used, NoMemory>
     ensures used { IfOk result AreUsed }
-    ensures symbols { IfOk result (λ used. symbols_of used ≡ []) }
+    ensures symbols { IfOk result (λ used. named_symbols used ≡ []) }
     ensures places { IfOk result (λ used. length used.places.items ≡ symbols) }
     ensures none { IfOk result (λ used. used.symbols ≡ []) }
 {

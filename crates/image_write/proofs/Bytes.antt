@@ -19,7 +19,7 @@ use Rattle.omos_model.specs.declared.mark.Target.{Target}
 use Rattle.omos_model.specs.declared.mark.Target.TheVariants.{Inside, Fixed}
 use Rattle.omos_model.specs.declared.refusal.Refusal.TheVariants.{Overflow}
 use Rattle.link_model.specs.Field.{field_value}
-use Rattle.link_model.specs.ImageBytes.{address_of, byte_of, covers, field_byte, field_of}
+use Rattle.link_model.specs.ImageBytes.{address_of, byte_of, covers, field_byte, number_in_field}
 use Rattle.link_model.specs.ImageBytes.{field_place, is_field_at, overflow_at, piece_byte}
 use Rattle.link_model.specs.ImageBytes.{slot_address, slot_byte}
 use Rattle.link_model.specs.Layout.{group_begin, program_pieces, slots_begin, target_at}
@@ -48,7 +48,7 @@ SlotsStand plan base slot = (t : Target) → slot t ≡ slot_address plan base t
 
 field-same : (plan : Plan) (base : ℕ) (slot : Target → ℕ) → SlotsStand plan base slot
     → (r : Reference)
-    → field_number plan.places slot base r ≡ field_of plan base r
+    → field_number plan.places slot base r ≡ number_in_field plan base r
 field-same plan base slot h r =
     λ i. field_value r.fixup.kind (address-same plan base (target_at r.landing) i) r.fixup.addend
     (base + field_place plan r) (h (target_at r.landing) i)

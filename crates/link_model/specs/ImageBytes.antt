@@ -46,8 +46,8 @@ slot_address plan base target =
 
 -- ---- fields
 
-abbrev pub field_of : Plan → ℕ → Reference → Option ℕ
-field_of plan base r =
+abbrev pub number_in_field : Plan → ℕ → Reference → Option ℕ
+number_in_field plan base r =
     let target = target_at r.landing in
     field_value r.fixup.kind (address_of plan base target) r.fixup.addend
     (base + field_place plan r) (slot_address plan base target)
@@ -55,7 +55,7 @@ field_of plan base r =
 -- L13 for a reference whose value doesn't fit
 abbrev pub overflow_at : Plan → ℕ → Reference → Option Refusal
 overflow_at plan base r =
-    if is_some (field_of plan base r) then None else Some (Overflow r.leaf r.number)
+    if is_some (number_in_field plan base r) then None else Some (Overflow r.leaf r.number)
 
 abbrev pub overflow : Plan → ℕ → Option Refusal
 overflow plan base = first_in (overflow_at plan base) (references plan.parts)
@@ -70,7 +70,7 @@ is_field_at plan x r = covers (field_place plan r) (width r.fixup.kind) x
 
 abbrev pub byte_in_field : Plan → ℕ → ℕ → Reference → ℕ
 byte_in_field plan base x r =
-    slice_index (little_bytes (width r.fixup.kind) (unwrap_or (field_of plan base r) 0))
+    slice_index (little_bytes (width r.fixup.kind) (unwrap_or (number_in_field plan base r) 0))
     (x - field_place plan r)
 
 -- of the last fixup that covers it

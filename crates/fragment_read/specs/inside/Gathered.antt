@@ -8,14 +8,14 @@ use Rattle.omos_model.specs.FragmentOf.{aim_of}
 use Rattle.omos_model.specs.declared.fixups.Field.{Field}
 use Rattle.omos_model.specs.declared.fragment.Fixup.{Fixup}
 use Rattle.fragment_read.specs.declared.used.Used.{Used}
-use Rattle.fragment_read.specs.inside.Used.{AreUsed, symbols_of}
+use Rattle.fragment_read.specs.inside.Used.{AreUsed, named_symbols}
 
 -- the fixups with these fields that aim at these symbols of a file
 abbrev pub gathered : List ℕ → List Field → Used → List Fixup
-gathered file fields used = fixups_of fields (map (aim_of file) (symbols_of used))
+gathered file fields used = fixups_of fields (map (aim_of file) (named_symbols used))
 
 pub record AreGathered (file : List ℕ) (fields : List Field) (u : Used) : Type 0 where
   pub used : AreUsed u
   pub places : length u.places.items ≡ symbol_count file
-  pub count : length (symbols_of u) ≡ length fields
+  pub count : length (named_symbols u) ≡ length fields
   pub aims : list_all (is_aim_of file) u.symbols ≡ true

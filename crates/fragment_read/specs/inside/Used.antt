@@ -23,13 +23,13 @@ pub record AreUsed (u : Used) : Type 0 where
   pub bound : length u.places.items < 2 ^ 32
 
 -- the symbols as they were named
-abbrev pub symbols_of : Used → List ℕ
-symbols_of u = decoded u.symbols u.keys
+abbrev pub named_symbols : Used → List ℕ
+named_symbols u = decoded u.symbols u.keys
 
 -- a symbol was named once more
 pub record HasNamed (old new : Used) (k : ℕ) : Type 0 where
   pub used : AreUsed new
   pub places : length new.places.items ≡ length old.places.items
-  pub symbols : symbols_of new ≡ symbols_of old ++ k ∷ []
+  pub symbols : named_symbols new ≡ named_symbols old ++ k ∷ []
   pub each : (p : ℕ → Bool) → list_all p old.symbols ≡ true → p k ≡ true
       → list_all p new.symbols ≡ true

@@ -4,14 +4,14 @@ use Rattle.dict_row.proofs.Decoded.{keys_of_mapped}
 use Rattle.omos_model.specs.FixupParts.{fixups_of}
 use Rattle.omos_model.specs.FragmentOf.{aim_of}
 use Rattle.omos_model.specs.declared.fixups.Field.{Field}
-use Rattle.fragment_read.specs.inside.Used.{symbols_of}
+use Rattle.fragment_read.specs.inside.Used.{named_symbols}
 use Rattle.fragment_read.proofs.Gathering.{aimed_at}
 use Rattle.fragment_read.proofs.fixups.fixups.Goals as goal
 
 pub push_all-requires-clause-none : goal.push_all-requires-clause-none
 unfolding fixups_of
 push_all-requires-clause-none c =
-    let aims = map (aim_of c.args.tables.now) (symbols_of c.in_ok-used.used) in
+    let aims = map (aim_of c.args.tables.now) (named_symbols c.in_ok-used.used) in
     ap (λ (fs : List Field). fixups_of fs aims)
     (c.from_vec-fields.ensures ∙ c.in_ok-with_capacity.ensures.items)
 
@@ -29,7 +29,7 @@ of-requires-3 c =
     let list =
     aimed_at c.args.tables.now used c.in_ok-of.field-0 c.in_ok-aims.aims c.in_ok-of.ensures
     (c.in_ok-aims.ensures ∙ ap (map aimed) c.as_slice.ensures) in
-    ap length (c.of-2.ensures ∙ list) ∙ length-map (symbols_of used) aimed
+    ap length (c.of-2.ensures ∙ list) ∙ length-map (named_symbols used) aimed
     ∙ c.in_ok-push_all.ensures.right.count ∙ sym (ap length c.fields-2.view_is)
 
 pub returns : goal.returns
