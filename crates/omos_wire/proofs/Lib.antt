@@ -6,4 +6,5 @@ pub mod Stuck
 pub mod Taken
 pub mod Fitting
 pub mod OneReply
+pub mod OneReason
 pub mod Sizes
