@@ -82,7 +82,7 @@ fn is_aim(file: &[u8], kept: &[bool], table: Symbols<'_>, k: u32) -> bool
     }
     let symbol = symbol(file, table, k);
     let index = symbol.st_shndx as usize;
-    !(symbol.st_info / 16 == STB_LOCAL && is_section(file, index) && !is_kept(file, kept, index))
+    symbol.st_info / 16 != STB_LOCAL || is_kept(file, kept, index) || !is_section(file, index)
 }
 
 /// A relocation of another type than NONE whose type, field or symbol is wrong.
