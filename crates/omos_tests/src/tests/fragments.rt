@@ -1,9 +1,7 @@
 //! Fragments of objects, lawful and not.
 
 use omos_base::{Fault, Part, Row, SymName};
-use omos_model::{
-    Aim, Export, Field, Fixup, Fragment, FragmentFault, Group, Kind, Piece, Spot,
-};
+use omos_model::{Aim, Export, Field, Fixup, Fragment, FragmentFault, Group, Kind, Piece, Spot};
 use std::alloc::Global;
 use std::test::Fail;
 
@@ -50,7 +48,17 @@ fn a_fragment_gives_back_its_references(rt: HostRuntime) -> Result<(), Fail> {
     })?;
     let fragment = Fragment::of(alloc, pieces, Row::new(alloc), fixups)?;
     let field = fragment.fixups().fields().first();
-    assert!(rt; matches!(field, Some(Field { piece: 0, offset: 4, kind: Kind::Pc32, addend: -4 })));
+    assert!(rt;
+        matches!(
+            field,
+            Some(Field {
+                piece: 0,
+                offset: 4,
+                kind: Kind::Pc32,
+                addend: -4
+            })
+        )
+    );
     let aim = fragment.fixups().aims().parts().values.first();
     assert!(rt; matches!(aim, Some(Aim::At(Spot::Fixed { value: 7 }))));
     Ok(())
