@@ -1,7 +1,8 @@
 -- Bytes in the order of the numbers that they make.
 use Rattle.std.proofs.Common.{◌≡◌, ◌≢◌, ℕ, zero, suc, ◌+◌, ◌*◌, ◌<◌, ◌≤◌, nat_lt, List, []}
 use Rattle.std.proofs.Common.{◌∷◌}
-use Rattle.std.proofs.Common.{length, take, drop, get_or, refl, ap, sym, ◌∙◌, arith, Fits, w8, w64}
+use Rattle.std.proofs.Common.{length, take, drop, get_or, refl, ap, sym, ◌∙◌, ◌⊎◌, inl, inr, arith, Fits}
+use Rattle.std.proofs.Common.{w8, w32, w64}
 use Rattle.std.specs.Int.{from_be_bytes}
 use Rattle.std.specs.Cmp.Lexicographic.{slice_cmp}
 use Rattle.std.specs.Ordering.{nat_cmp, ordering_then, is_lt, MatchOrdering}
@@ -65,21 +66,21 @@ words m n (suc k) (x ∷ xs) (y ∷ ys) p q a b =
     ∙ words (m * 256 + x) (n * 256 + y) k xs ys (omega arith) (omega arith) (λ i. a (suc i))
     (λ i. b (suc i))
 
--- the first eight bytes of each from a position on
-eight : (at : ℕ) (xs ys : List ℕ) → at + 8 ≤ length xs → at + 8 ≤ length ys → AreBytes xs
+-- the first bytes of each from a position on
+first : (w at : ℕ) (xs ys : List ℕ) → at + w ≤ length xs → at + w ≤ length ys → AreBytes xs
     → AreBytes ys
     → slice_cmp nat_cmp (drop at xs) (drop at ys)
     ≡ ordering_then
-    (nat_cmp (number_before 0 (take 8 (drop at xs))) (number_before 0 (take 8 (drop at ys))))
-    (slice_cmp nat_cmp (drop (at + 8) xs) (drop (at + 8) ys))
-eight at xs ys p q a b =
-    let o = nat_cmp (number_before 0 (take 8 (drop at xs)))
-    (number_before 0 (take 8 (drop at ys))) in
-    words 0 0 8 (drop at xs) (drop at ys) (omega (arith, length-drop at xs))
+    (nat_cmp (number_before 0 (take w (drop at xs))) (number_before 0 (take w (drop at ys))))
+    (slice_cmp nat_cmp (drop (at + w) xs) (drop (at + w) ys))
+first w at xs ys p q a b =
+    let o = nat_cmp (number_before 0 (take w (drop at xs)))
+    (number_before 0 (take w (drop at ys))) in
+    words 0 0 w (drop at xs) (drop at ys) (omega (arith, length-drop at xs))
     (omega (arith, length-drop at ys))
     (bytes_drop at xs a) (bytes_drop at ys b)
-    ∙ ap (λ zs. ordering_then o (slice_cmp nat_cmp zs (drop 8 (drop at ys)))) (drop-drop 8 at xs)
-    ∙ ap (λ zs. ordering_then o (slice_cmp nat_cmp (drop (at + 8) xs) zs)) (drop-drop 8 at ys)
+    ∙ ap (λ zs. ordering_then o (slice_cmp nat_cmp zs (drop w (drop at ys)))) (drop-drop w at xs)
+    ∙ ap (λ zs. ordering_then o (slice_cmp nat_cmp (drop (at + w) xs) zs)) (drop-drop w at ys)
 
 -- the numbers decide
 decided : (x y : ℕ) (o : Ordering) → x ≢ y → nat_lt x y ≡ is_lt (ordering_then (nat_cmp x y) o)
@@ -91,35 +92,56 @@ decided x y o n = go (nat_cmp x y) refl (ranked x y (nat_cmp x y) refl)
     go Equal e l = absurd (n l)
     go Greater e l = grind (arith, nat_tests, l)
 
-pub word_decides : (at x y : ℕ) (xs ys : List ℕ) → at + 8 ≤ length xs → at + 8 ≤ length ys
+pub word_decides : (w at x y : ℕ) (xs ys : List ℕ) → at + w ≤ length xs → at + w ≤ length ys
     → AreBytes xs
-    → AreBytes ys → x ≡ number_before 0 (take 8 (drop at xs))
-    → y ≡ number_before 0 (take 8 (drop at ys))
+    → AreBytes ys → x ≡ number_before 0 (take w (drop at xs))
+    → y ≡ number_before 0 (take w (drop at ys))
     → x ≢ y
     → nat_lt x y ≡ is_lt (name_cmp (drop at xs) (drop at ys))
-word_decides at x y xs ys p q a b e f n =
-    let rest = slice_cmp nat_cmp (drop (at + 8) xs) (drop (at + 8) ys) in
+word_decides w at x y xs ys p q a b e f n =
+    let rest = slice_cmp nat_cmp (drop (at + w) xs) (drop (at + w) ys) in
     decided x y rest n
     ∙ ap (λ m. is_lt (ordering_then (nat_cmp m y) rest)) e
-    ∙ ap (λ m. is_lt (ordering_then (nat_cmp (number_before 0 (take 8 (drop at xs))) m) rest)) f
-    ∙ sym (ap is_lt (eight at xs ys p q a b))
+    ∙ ap (λ m. is_lt (ordering_then (nat_cmp (number_before 0 (take w (drop at xs))) m) rest)) f
+    ∙ sym (ap is_lt (first w at xs ys p q a b))
 
 -- where they are the same, the rest does
 level : (x y : ℕ) → x ≡ y → nat_cmp x y ≡ Equal
 level x y e = grind (arith, nat_tests, e)
 
-pub word_passes : (at x y : ℕ) (xs ys : List ℕ) → at + 8 ≤ length xs → at + 8 ≤ length ys
+pub word_passes : (w at x y : ℕ) (xs ys : List ℕ) → at + w ≤ length xs → at + w ≤ length ys
     → AreBytes xs
-    → AreBytes ys → x ≡ number_before 0 (take 8 (drop at xs))
-    → y ≡ number_before 0 (take 8 (drop at ys))
+    → AreBytes ys → x ≡ number_before 0 (take w (drop at xs))
+    → y ≡ number_before 0 (take w (drop at ys))
     → x ≡ y
-    → name_cmp (drop (at + 8) xs) (drop (at + 8) ys) ≡ name_cmp (drop at xs) (drop at ys)
-word_passes at x y xs ys p q a b e f s =
-    let rest = slice_cmp nat_cmp (drop (at + 8) xs) (drop (at + 8) ys) in
-    sym (eight at xs ys p q a b
+    → name_cmp (drop (at + w) xs) (drop (at + w) ys) ≡ name_cmp (drop at xs) (drop at ys)
+word_passes w at x y xs ys p q a b e f s =
+    let rest = slice_cmp nat_cmp (drop (at + w) xs) (drop (at + w) ys) in
+    sym (first w at xs ys p q a b
     ∙ ap (λ o. ordering_then o rest)
-    (level (number_before 0 (take 8 (drop at xs))) (number_before 0 (take 8 (drop at ys)))
+    (level (number_before 0 (take w (drop at xs))) (number_before 0 (take w (drop at ys)))
     (sym e ∙ s ∙ f)))
+
+both_more : (m n : ℕ) → nat_lt (suc m) (suc n) ≡ nat_lt m n
+both_more m n = grind (arith, nat_tests)
+
+-- where one of both has ended, the shorter is below
+pub ended : (at : ℕ) (xs ys : List ℕ) → at ≤ length xs → at ≤ length ys
+    → (length xs ≤ at) ⊎ (length ys ≤ at)
+    → nat_lt (length xs) (length ys) ≡ is_lt (name_cmp (drop at xs) (drop at ys))
+ended zero [] [] p q m = refl
+ended zero [] (y ∷ ys) p q m = grind (arith, nat_tests)
+ended zero (x ∷ xs) [] p q m = grind (arith, nat_tests)
+ended zero (x ∷ xs) (y ∷ ys) p q (inl l) = absurd (omega arith)
+ended zero (x ∷ xs) (y ∷ ys) p q (inr l) = absurd (omega arith)
+ended (suc at) [] ys p q m = absurd (omega arith)
+ended (suc at) (x ∷ xs) [] p q m = absurd (omega arith)
+ended (suc at) (x ∷ xs) (y ∷ ys) p q (inl l) =
+    both_more (length xs) (length ys)
+    ∙ ended at xs ys (omega arith) (omega arith) (inl (omega arith))
+ended (suc at) (x ∷ xs) (y ∷ ys) p q (inr l) =
+    both_more (length xs) (length ys)
+    ∙ ended at xs ys (omega arith) (omega arith) (inr (omega arith))
 
 -- a number read from eight bytes
 eight_read : (xs : List ℕ) → length xs ≡ 8 → from_be_bytes w64 xs ≡ number_before 0 xs
@@ -139,3 +161,18 @@ pub word_is : (at : ℕ) (xs : List ℕ) → at + 8 ≤ length xs
 word_is at xs l =
     eight_read (take 8 (drop at xs))
     (length-take-le 8 (drop at xs) (omega (arith, length-drop at xs)))
+
+-- and one read from four
+four_read : (xs : List ℕ) → length xs ≡ 4 → from_be_bytes w32 xs ≡ number_before 0 xs
+four_read (b0 ∷ b1 ∷ b2 ∷ b3 ∷ []) e = omega arith
+four_read (b0 ∷ b1 ∷ b2 ∷ b3 ∷ b4 ∷ bs) e = absurd (omega arith)
+four_read [] e = absurd (omega arith)
+four_read (b0 ∷ []) e = absurd (omega arith)
+four_read (b0 ∷ b1 ∷ []) e = absurd (omega arith)
+four_read (b0 ∷ b1 ∷ b2 ∷ []) e = absurd (omega arith)
+
+pub half_is : (at : ℕ) (xs : List ℕ) → at + 4 ≤ length xs
+    → from_be_bytes w32 (take 4 (drop at xs)) ≡ number_before 0 (take 4 (drop at xs))
+half_is at xs l =
+    four_read (take 4 (drop at xs))
+    (length-take-le 4 (drop at xs) (omega (arith, length-drop at xs)))

@@ -1,7 +1,7 @@
 use Rattle.std.proofs.Common.{◌∙◌, ap, take, w64}
 use Rattle.std.specs.Int.{from_be_bytes}
 use Rattle.name_tree.proofs.Words.{word_is}
-use Rattle.name_tree.proofs.compare.word_at.Goals as goal
+use Rattle.name_tree.proofs.compare.eight_at.Goals as goal
 
 pub returns : goal.returns
 returns c =
