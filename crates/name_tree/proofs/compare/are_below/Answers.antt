@@ -1,4 +1,4 @@
-use Rattle.std.proofs.Common.{◌≡◌, ◌∙◌, ◌+◌, ◌≤◌, length, ap, rules, arith, inl, inr, sym, drop}
+use Rattle.std.proofs.Common.{◌≡◌, ◌∙◌, ◌+◌, ◌≤◌, length, ap, arith, inl, inr}
 use Rattle.std.specs.Ordering.{is_lt}
 use Rattle.omos_model.specs.Names.{name_cmp}
 use Rattle.name_tree.proofs.Words.{ended, word_decides, word_passes}
