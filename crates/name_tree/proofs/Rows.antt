@@ -6,7 +6,7 @@ use Rattle.std.proofs.Common.{subst, take_all}
 use Rattle.std.proofs.lemmas.List.{append-nil, length-take-le, length-drop, ext_get_or, get_or-take}
 use Rattle.std.proofs.lemmas.List.{get_or-drop}
 use Rattle.std.proofs.lemmas.List.{get_or_append_left, get_or-append_right, get_or_default}
-use Rattle.name_tree.specs.inside.Few.{row_values, IsRow}
+use Rattle.name_tree.specs.inside.Few.{AreRows, IsRow, row_values}
 
 split : (n k : ℕ) → (k < n) ⊎ (n ≤ k)
 split zero k = inr (omega arith)
@@ -52,34 +52,10 @@ module _ {X : Type 0} where
 
   -- ---- several rows
 
-  abbrev pub AreRows : List X → ℕ → ℕ → List (List X) → Type 0
-  AreRows xs at last [] = Unit {0}
-  AreRows xs at last (r ∷ rs) = IsRow xs at last r × AreRows xs (at + 8) last rs
-
-  pub eight : (xs : List X) (at last : ℕ) (r0 r1 r2 r3 r4 r5 r6 r7 : List X)
-      → IsRow xs at last r0 → IsRow xs (at + 8) last r1 → IsRow xs (at + 16) last r2
-      → IsRow xs (at + 24) last r3 → IsRow xs (at + 32) last r4 → IsRow xs (at + 40) last r5
-      → IsRow xs (at + 48) last r6 → IsRow xs (at + 56) last r7
-      → AreRows xs at last (r0 ∷ r1 ∷ r2 ∷ r3 ∷ r4 ∷ r5 ∷ r6 ∷ r7 ∷ [])
-  eight xs at last r0 r1 r2 r3 r4 r5 r6 r7 h0 h1 h2 h3 h4 h5 h6 h7 =
-      let e2 : at + 16 ≡ at + 8 + 8 = omega arith in
-      let e3 : at + 24 ≡ at + 8 + 8 + 8 = omega arith in
-      let e4 : at + 32 ≡ at + 8 + 8 + 8 + 8 = omega arith in
-      let e5 : at + 40 ≡ at + 8 + 8 + 8 + 8 + 8 = omega arith in
-      let e6 : at + 48 ≡ at + 8 + 8 + 8 + 8 + 8 + 8 = omega arith in
-      let e7 : at + 56 ≡ at + 8 + 8 + 8 + 8 + 8 + 8 + 8 = omega arith in (
-        h0,
-        (
-          h1,
-          (
-            moved e2 h2,
-            (moved e3 h3, (moved e4 h4, (moved e5 h5, (moved e6 h6, (moved e7 h7, tt))))),
-          ),
-        ),
-      )
-    where
-      moved : {m n : ℕ} {r : List X} → m ≡ n → IsRow xs m last r → IsRow xs n last r
-      moved {m} {n} {r} e h = subst (λ k. IsRow xs k last r) e h
+  -- the same row, where the number is written in another way
+  pub moved : (xs : List X) (last m n : ℕ) (r : List X) → m ≡ n → IsRow xs m last r
+      → IsRow xs n last r
+  moved xs last m n r e h = subst (λ k. IsRow xs k last r) e h
 
   pub length-rows : (xs : List X) (at last : ℕ) (rs : List (List X)) → AreRows xs at last rs
       → length (row_values rs) ≡ 8 * length rs

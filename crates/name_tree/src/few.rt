@@ -2,7 +2,7 @@
 
 ghost use Rattle.std.specs.Prelude.{◌≡◌, ◌+◌, ◌<◌, ◌≤◌, ◌++◌, length, take, drop, get_or, IfOk};
 ghost use Rattle.std.specs.Prelude.{OnOk};
-ghost use Rattle.name_tree.specs.inside.Few.{IsRow};
+ghost use Rattle.name_tree.specs.inside.Few.{HoldRows, IsRow, row_values, rows_of};
 
 use omos_base::{NoMemory, Row, Shared};
 use omos_model::Stamped;
@@ -28,27 +28,53 @@ impl<T: Drop> Owned for Shared<T> {
     }
 }
 
+/// Rows of eight values, no more than up to twice as many as hold those that there are.
+#[derive(Drop)]
+pub(crate) enum Rows<T> {
+    One([[T; 8]; 1]),
+    Two([[T; 8]; 2]),
+    Four([[T; 8]; 4]),
+    Six([[T; 8]; 6]),
+    Eight([[T; 8]; 8]),
+}
+
+impl<T> Rows<T> {
+    /// The values of all rows.
+    fn as_slice(&self) -> &[T]
+        requires { length (rows_of self.now) ≤ 8 }
+        ensures { result.now ≡ row_values (rows_of self.now) }
+    {
+        match self {
+            Rows::One(rows) => rows.as_slice().as_flattened(),
+            Rows::Two(rows) => rows.as_slice().as_flattened(),
+            Rows::Four(rows) => rows.as_slice().as_flattened(),
+            Rows::Six(rows) => rows.as_slice().as_flattened(),
+            Rows::Eight(rows) => rows.as_slice().as_flattened(),
+        }
+    }
+}
+
 /// At most 64 values, that contracts see as their list. They stand in place, so that what shares
-/// them has one allocation; behind them the last one fills the room.
+/// them has one allocation; behind them the last one fills the rows.
 #[derive(Drop)]
 pub struct Few<T> {
-    rows: [[T; 8]; 8],
+    rows: Rows<T>,
     count: usize,
 }
 
 impl<T> Model for Few<T> {
     ghost use Rattle.std.specs.Prelude.{◌≡◌, ◌≤◌, List, length, take};
     ghost use Rattle.std.specs.Coded.{coded_list};
-    ghost use Rattle.name_tree.specs.inside.Few.{row_values};
+    ghost use Rattle.name_tree.specs.inside.Few.{row_values, rows_of};
 
     ghost Value = { List T };
 
     ghost coded = { coded_list T.code };
 
-    ghost view = { λ few. take few.count (row_values few.rows) };
+    ghost view = { λ few. take few.count (row_values (rows_of few.rows)) };
 
-    ghost invariant = { λ few. (few.count ≤ 64) × (length few.rows ≡ 8)
-        × (length (row_values few.rows) ≡ 64) };
+    ghost invariant = { λ few. (length (rows_of few.rows) ≤ 8)
+        × (few.count ≤ length (row_values (rows_of few.rows))) };
 }
 
 impl<T> Few<T> {
@@ -56,7 +82,7 @@ impl<T> Few<T> {
     pub fn as_slice(&self) -> &[T]
         ensures { result.now ≡ self.now }
     {
-        self.rows.as_slice().as_flattened().split_at(self.count).0
+        self.rows.as_slice().split_at(self.count).0
     }
 }
 
@@ -77,17 +103,7 @@ impl<T: Owned> Few<T> {
         ensures { IfOk result (λ few. few
             ≡ take count (drop from (front.now ++ new.now ++ back.now))) }
     {
-        let last = from + (count - 1);
-        let rows = [
-            row(front, new, back, from, last)?,
-            row(front, new, back, from + 8, last)?,
-            row(front, new, back, from + 16, last)?,
-            row(front, new, back, from + 24, last)?,
-            row(front, new, back, from + 32, last)?,
-            row(front, new, back, from + 40, last)?,
-            row(front, new, back, from + 48, last)?,
-            row(front, new, back, from + 56, last)?,
-        ];
+        let rows = rows_from(front, new, back, from, count)?;
         Shared::of(alloc, Few { rows, count })
     }
 }
@@ -193,6 +209,44 @@ fn row<T: Owned>(
         owner(front, new, back, at + 6, last)?,
         owner(front, new, back, at + 7, last)?,
     ])
+}
+
+/// Rows of second owners of so many of the values, from a number on.
+fn rows_from<T: Owned>(
+    front: &[T],
+    new: &[T],
+    back: &[T],
+    from: usize,
+    count: usize,
+) -> Result<Rows<T>, NoMemory>
+    requires some { 0 < count }
+    requires few { count ≤ 64 }
+    requires near { from ≤ 64 }
+    requires within { from + count ≤ length (front.now ++ new.now ++ back.now) }
+    ensures { IfOk result (λ rows. HoldRows (front.now ++ new.now ++ back.now) from count rows) }
+{
+    let last = from + (count - 1);
+    let first = row(front, new, back, from, last)?;
+    if count <= 8 {
+        return Ok(Rows::One([first]));
+    }
+    let second = row(front, new, back, from + 8, last)?;
+    if count <= 16 {
+        return Ok(Rows::Two([first, second]));
+    }
+    let third = row(front, new, back, from + 16, last)?;
+    let fourth = row(front, new, back, from + 24, last)?;
+    if count <= 32 {
+        return Ok(Rows::Four([first, second, third, fourth]));
+    }
+    let fifth = row(front, new, back, from + 32, last)?;
+    let sixth = row(front, new, back, from + 40, last)?;
+    if count <= 48 {
+        return Ok(Rows::Six([first, second, third, fourth, fifth, sixth]));
+    }
+    let seventh = row(front, new, back, from + 48, last)?;
+    let eighth = row(front, new, back, from + 56, last)?;
+    Ok(Rows::Eight([first, second, third, fourth, fifth, sixth, seventh, eighth]))
 }
 
 /// Appends second owners of the values.
