@@ -57,7 +57,7 @@ try:
 	@echo "Nothing was proved: make build proves, and builds the programs to use."
 
 build:
-	@echo "Proving and building omosd and omos. The first time this takes about an hour,"
+	@echo "Proving and building omosd and omos. The first time this takes most of an hour,"
 	@echo "later seconds. (make try builds them in a minute or two, and proves nothing.)"
 	@tools/build.py omosd=--version omos=--help
 	@echo "The proved programs are $(OMOSD) and $(OMOS)."
