@@ -28,7 +28,7 @@ impl<T: Drop> Owned for Shared<T> {
     }
 }
 
-/// Rows of eight values, no more than up to twice as many as hold those that there are.
+/// One, two, four, six or eight rows of eight values: the fewest that hold those that there are.
 #[derive(Drop)]
 pub(crate) enum Rows<T> {
     One([[T; 8]; 1]),

@@ -1,6 +1,5 @@
-use Rattle.std.proofs.Common.{◌≡◌, ◌∙◌, ◌+◌, ◌≤◌, length, ap, arith, inl, inr}
+use Rattle.std.proofs.Common.{◌∙◌, ◌+◌, ◌≤◌, length, ap, arith, inl, inr}
 use Rattle.std.specs.Ordering.{is_lt}
-use Rattle.omos_model.specs.Names.{name_cmp}
 use Rattle.name_tree.proofs.Words.{ended, word_decides, word_passes}
 use Rattle.name_tree.proofs.compare.are_below.Goals as goal
 use Rattle.name_tree.proofs.compare.are_below.Goals.{then-bytes-test+else-at-others}
